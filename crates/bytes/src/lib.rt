@@ -1,0 +1,3 @@
+// Sets of bytes: one table of 256 class masks, and a type for each set.
+pub mod class;
+pub mod sets;

@@ -1,0 +1,5 @@
+pub mod Kinds
+pub mod Laws
+pub mod Lents
+pub mod Names
+pub mod Steps

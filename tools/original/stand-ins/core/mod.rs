@@ -1,0 +1,3 @@
+pub mod configuration;
+pub mod constants;
+pub mod sampling;
