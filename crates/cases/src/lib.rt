@@ -2,6 +2,8 @@
 #[cfg(test)]
 mod bytes_cases;
 #[cfg(test)]
+mod carrier_cases;
+#[cfg(test)]
 mod number_cases;
 #[cfg(test)]
 mod text_cases;

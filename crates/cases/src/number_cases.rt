@@ -3,9 +3,8 @@ use number::read::*;
 use number::write::*;
 use std::test::*;
 use text::check::same;
-use trace::mechanism::SamplingMechanism;
-use trace::priority::SamplingPriority;
-use trace::priority::is_kept;
+use trace::mechanism::*;
+use trace::priority::*;
 
 #[test]
 fn numbers_of_64_bits() -> Result<(), Fail> {
@@ -86,6 +85,15 @@ fn tids() -> Result<(), Fail> {
     check_eq(read_tid(b"000000000000001"), None)?;
     check_eq(read_tid(b"-000000000000001"), None)?;
     check_eq(read_tid(b"00000000000000001"), None)
+}
+
+#[test]
+fn constants() -> Result<(), Fail> {
+    check_eq(AUTO_REJECT.value, 0)?;
+    check_eq(AUTO_KEEP.value, 1)?;
+    check_eq(USER_KEEP.value, 2)?;
+    check_eq(DEFAULT.value, 0)?;
+    check(same(SAMPLING_DECISION_MAKER_TAG_KEY, b"_dd.p.dm"))
 }
 
 #[test]

@@ -6,9 +6,9 @@ use traceparent::read::*;
 use traceparent::write::traceparent_text;
 
 fn read(text: &[u8]) -> u8 {
-    match extract_traceparent(text) {
+    match read_header(text) {
         Ok(_) => 0,
-        Err(fault) => fault as u8,
+        Err(fault) => fault.number(),
     }
 }
 
@@ -71,6 +71,10 @@ fn versions_and_tails() -> Result<(), Fail> {
     check_eq(
         read(b"00-0000000000000001000000000000000a-00000000000000b7-0"),
         2,
+    )?;
+    check_eq(
+        read(b"\t 00-0000000000000001000000000000000a-00000000000000b7-01 "),
+        0,
     )?;
     check_eq(read(b""), 2)
 }

@@ -9,7 +9,7 @@ use lib.ListN.{length, getD}
 use lib.Signed.{_≤ℤ_}
 use Rattle.std.specs.declared.option.Option.the-variants.{Some, None}
 use Rattle.bytes.specs.Sets.{digit, hex}
-use Rattle.text.specs.Texts.{all}
+use Rattle.text.specs.Texts.{all, lawful}
 use Rattle.number.specs.Numbers.{number64, small, mechanism, hexNumber, tid, decimalText, smallText, mechanismText, hexText}
 
 -- a number of 64 bits, written in decimal, reads as itself
@@ -50,6 +50,19 @@ Mechanism-form = (m : ℕ) → m < 256 → length (mechanismText m) ≤ 4
 -- a hexadecimal text has just the bytes asked for, all of them lower-case digits
 abbrev pub Hex-form : Type 0
 Hex-form = (width n : ℕ) → (length (hexText width n) ≡ width) × (all hex (hexText width n) ≡ true)
+
+-- all of them are lawful text, so that a carrier can show them
+abbrev pub Decimals-lawful : Type 0
+Decimals-lawful = (n : ℕ) → n < 2 ^ 64 → lawful (decimalText n) ≡ true
+
+abbrev pub Smalls-lawful : Type 0
+Smalls-lawful = (z : ℤ) → negsuc 127 ≤ℤ z → z ≤ℤ pos 127 → lawful (smallText z) ≡ true
+
+abbrev pub Mechanisms-lawful : Type 0
+Mechanisms-lawful = (m : ℕ) → m < 256 → lawful (mechanismText m) ≡ true
+
+abbrev pub Hexes-lawful : Type 0
+Hexes-lawful = (width n : ℕ) → width ≤ 16384 → lawful (hexText width n) ≡ true
 
 -- lower-case text that reads as a number is the text that is written of it
 abbrev pub Only-hex-text : Type 0

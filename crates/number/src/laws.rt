@@ -1,5 +1,5 @@
 // The laws of the definitions. A contract names each, so that the check asks for its proof; the code has nothing to do.
-ghost use Rattle.number.specs.Laws.{Decimal-form, Decimals-read-back, Hex-form, Hexes-read-back, Limits, Mechanism-form, Mechanisms-read-back, Only-hex-text, Small-form, Smalls-read-back, Tids-read-back};
+ghost use Rattle.number.specs.Laws.{Decimal-form, Decimals-lawful, Decimals-read-back, Hex-form, Hexes-lawful, Hexes-read-back, Limits, Mechanism-form, Mechanisms-lawful, Mechanisms-read-back, Only-hex-text, Small-form, Smalls-lawful, Smalls-read-back, Tids-read-back};
 
 // What is written is read back.
 pub fn written_reads_back() -> u8
@@ -12,12 +12,22 @@ pub fn written_reads_back() -> u8
     0
 }
 
-// How long a written text is, and of which bytes, so that callers know their room and need no test.
+// How long a written text is, so that callers know their room and need no test.
 pub fn written_forms() -> u8
     ensures decimals { λ _. ⌜ Decimal-form ⌝ }
     ensures smalls { λ _. ⌜ Small-form ⌝ }
     ensures mechanisms { λ _. ⌜ Mechanism-form ⌝ }
     ensures hexes { λ _. ⌜ Hex-form ⌝ }
+{
+    0
+}
+
+// A written text is lawful, so that a carrier that has room takes it.
+pub fn written_is_lawful() -> u8
+    ensures decimals { λ _. ⌜ Decimals-lawful ⌝ }
+    ensures smalls { λ _. ⌜ Smalls-lawful ⌝ }
+    ensures mechanisms { λ _. ⌜ Mechanisms-lawful ⌝ }
+    ensures hexes { λ _. ⌜ Hexes-lawful ⌝ }
 {
     0
 }

@@ -4,12 +4,10 @@ use crate::quote::quote;
 use number::write::hex_u64;
 use std::alloc::AllocError;
 use std::alloc::Global;
-use text::trim::trim;
 use trace::ids::TraceId;
 use trace::priority::SamplingPriority;
 use trace::priority::is_kept;
-use traceparent::read::TraceparentFault;
-use traceparent::read::extract_traceparent;
+use traceparent::read::read_header;
 use traceparent::write::traceparent_text;
 
 #[derive(Drop)]
@@ -63,7 +61,7 @@ impl Job {
 
     fn read(&mut self) -> Answer {
         let read = match &self.traceparent {
-            Some(header) => extract_traceparent(trim(header)),
+            Some(header) => read_header(header),
             None => return Answer::Refused(1),
         };
         match read {
@@ -73,7 +71,7 @@ impl Job {
                 self.priority = Some(told.sampling_priority);
                 Answer::Accepted
             }
-            Err(fault) => Answer::Refused(fault as u8),
+            Err(fault) => Answer::Refused(fault.number()),
         }
     }
 

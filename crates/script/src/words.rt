@@ -1,8 +1,11 @@
 // The words of a line.
+use bytes::sets::Blank;
+use bytes::sets::BlankTest;
+use bytes::sets::ByteTest;
 use text::split::split_once;
 use text::trim::trim;
 
-// A cursor over the words that are still to come. A word ends at a space; a quoted one at its second quote.
+// A cursor over the words that are still to come. A word ends at a blank; a quoted one at its second quote.
 #[derive(Clone, Copy)]
 pub(crate) struct Words<'a> {
     rest: &'a [u8],
@@ -29,9 +32,16 @@ fn word_len(line: &[u8]) -> usize {
             Some((text, _)) => text.len() + 2,
             None => line.len(),
         },
-        _ => match split_once(line, b' ') {
-            Some((word, _)) => word.len(),
-            None => line.len(),
-        },
+        _ => blank_at(line),
     }
+}
+
+// The place of the first blank, or the length where there is none.
+fn blank_at(line: &[u8]) -> usize {
+    for (i, b) in line.iter().enumerate() {
+        if Blank::test(*b) {
+            return i;
+        }
+    }
+    line.len()
 }

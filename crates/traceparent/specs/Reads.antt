@@ -15,6 +15,7 @@ use Rattle.std.specs.declared.result.Result.{Result}
 use Rattle.std.specs.declared.result.Result.the-variants.{Ok, Err}
 use Rattle.number.specs.Numbers.{hexNumber}
 use Rattle.text.specs.Takes.{takenChar, takenHex}
+use Rattle.text.specs.Trims.{trimmed}
 use Rattle.trace.specs.Traces.{isZero}
 use Rattle.trace.specs.declared.ids.TraceId.{TraceId}
 use Rattle.trace.specs.declared.priority.SamplingPriority.{SamplingPriority}
@@ -91,3 +92,7 @@ readFrom (Some f) = judgedIf f (numbers f)
 -- what the text says, or why it is refused
 abbrev pub readTraceparent : List ℕ → Result Traceparent TraceparentFault
 readTraceparent s = readFrom (components s)
+
+-- what a header's value says: blanks off, then as above
+unfoldable pub headerTraceparent : List ℕ → Result Traceparent TraceparentFault
+headerTraceparent value = readTraceparent (trimmed value)

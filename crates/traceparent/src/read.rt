@@ -1,12 +1,13 @@
 // traceparent, read.
 ghost use mathlib.Core.Path.{_≡_};
 ghost use Rattle.std.specs.Options.{mapped};
-ghost use Rattle.traceparent.specs.Reads.{Fields, components, judged, numbers, parts, readTraceparent, sampled, taken-tail};
+ghost use Rattle.traceparent.specs.Reads.{Fields, components, headerTraceparent, judged, number, numbers, parts, readTraceparent, sampled, taken-tail};
 use number::read::read_hex_u8;
 use number::read::read_hex_u64;
 use text::check::same;
 use text::take::take_char;
 use text::take::take_n_hex_chars;
+use text::trim::trim;
 use trace::ids::TraceId;
 use trace::ids::TraceIdDebug;
 use trace::ids::TraceIdPartialEq;
@@ -32,6 +33,14 @@ pub enum TraceparentFault {
     ZeroSpanId = 4,
     VersionFf = 5,
     TailAfterVersion00 = 6,
+}
+
+impl TraceparentFault {
+    pub fn number(self) -> u8
+        ensures { λ r. ⌜ r ≡ number self ⌝ }
+    {
+        self as u8
+    }
 }
 
 // The parts of a traceparent, as they stand in the text. A tail is what follows a dash after the flags.
@@ -139,7 +148,7 @@ fn judge(c: Components, n: Numbers) -> Result<Traceparent, TraceparentFault>
     })
 }
 
-// The traceparent that the text writes; blanks at its ends are taken off before.
+// The traceparent that a text without blanks at its ends writes.
 pub fn extract_traceparent(text: &[u8]) -> Result<Traceparent, TraceparentFault>
     ensures { λ r. ⌜ r ≡ readTraceparent (now (text .entry)) ⌝ }
 {
@@ -150,4 +159,11 @@ pub fn extract_traceparent(text: &[u8]) -> Result<Traceparent, TraceparentFault>
         return Err(TraceparentFault::Shape);
     };
     judge(components, numbers)
+}
+
+// What a traceparent header says: blanks surround a header's value and do not belong to it.
+pub fn read_header(value: &[u8]) -> Result<Traceparent, TraceparentFault>
+    ensures { λ r. ⌜ r ≡ headerTraceparent (now (value .entry)) ⌝ }
+{
+    extract_traceparent(trim(value))
 }

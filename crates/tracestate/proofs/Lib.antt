@@ -1,0 +1,3 @@
+mod Hearing
+mod Reading
+mod Tagging

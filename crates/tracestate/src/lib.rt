@@ -1,0 +1,4 @@
+// The tracestate header, read as the W3C Trace Context Recommendation, Level 1, defines it, with the exceptions of docs/HEADERS.md.
+pub mod items;
+pub mod member;
+pub mod read;
