@@ -17,11 +17,12 @@ pub(crate) enum Call {
     Trace(TraceId),
     Span(u64),
     Priority(Option<SamplingPriority>),
-    // The header of the context, and a context from the header.
+    // The traceparent of the context into the carrier, and a context from the carrier's.
     WriteTraceparent,
     ReadTraceparent,
-    // The header as another program would hand it on.
-    SetTraceparent(Vec<u8>),
+    // A header of the carrier, as another program would set it.
+    Set(Vec<u8>, Vec<u8>),
+    Unset(Vec<u8>),
 }
 
 fn read_trace_id(word: &[u8]) -> Option<TraceId> {
@@ -52,19 +53,29 @@ fn priority_call(word: &[u8]) -> Option<Call> {
     Some(Call::Priority(Some(SamplingPriority { value })))
 }
 
-fn traceparent_call(heap: Global, words: &mut Words) -> Result<Option<Call>, AllocError> {
-    let verb = words.next();
+fn traceparent_call(verb: &[u8]) -> Option<Call> {
     if same(verb, b"write") {
-        return Ok(Some(Call::WriteTraceparent));
+        Some(Call::WriteTraceparent)
+    } else if same(verb, b"read") {
+        Some(Call::ReadTraceparent)
+    } else {
+        None
     }
-    if same(verb, b"read") {
-        return Ok(Some(Call::ReadTraceparent));
-    }
-    if !same(verb, b"is") {
+}
+
+fn set_call(heap: Global, words: &mut Words) -> Result<Option<Call>, AllocError> {
+    let Some(name) = unquote(heap, words.next())? else {
         return Ok(None);
-    }
+    };
     match unquote(heap, words.next())? {
-        Some(text) => Ok(Some(Call::SetTraceparent(text))),
+        Some(value) => Ok(Some(Call::Set(name, value))),
+        None => Ok(None),
+    }
+}
+
+fn unset_call(heap: Global, words: &mut Words) -> Result<Option<Call>, AllocError> {
+    match unquote(heap, words.next())? {
+        Some(name) => Ok(Some(Call::Unset(name))),
         None => Ok(None),
     }
 }
@@ -86,7 +97,13 @@ fn first_call(heap: Global, words: &mut Words) -> Result<Option<Call>, AllocErro
         return Ok(priority_call(words.next()));
     }
     if same(verb, b"traceparent") {
-        return traceparent_call(heap, words);
+        return Ok(traceparent_call(words.next()));
+    }
+    if same(verb, b"set") {
+        return set_call(heap, words);
+    }
+    if same(verb, b"unset") {
+        return unset_call(heap, words);
     }
     Ok(None)
 }

@@ -1,20 +1,41 @@
 // A whole script.
-use crate::call::Call;
-use crate::call::read_call;
-use crate::quote::quote;
+use crate::choice::Bottom;
+use crate::choice::Choice;
+use crate::choice::read_choice;
+use crate::content::Content;
+use crate::content::LineBlockContent;
+use crate::content::PrefixedContent;
+use crate::content::SlotTableContent;
+use crate::lines::Lines;
+use crate::section::run_section;
+use crate::show::show_answer;
+use crate::show::show_line;
+use crate::show::show_unreadable;
 use crate::state::Answer;
 use crate::state::Job;
-use bytes::sets::Text;
-use bytes::sets::TextTest;
-use number::write::decimal_u64;
+use block::writer::LineBlock;
+use block::writer::LineBlockCarrier;
+use block::writer::LineBlockExtractor;
+use block::writer::LineBlockInjector;
+use carrier::traits::Extractor;
+use carrier::traits::Injector;
+use prefix::layer::Prefixed;
+use prefix::layer::PrefixedCarrier;
+use prefix::layer::PrefixedExtractor;
+use prefix::layer::PrefixedInjector;
+use prefix::prefixes::Prefix;
+use queue::open_queue;
+use slots::table::SlotTable;
+use slots::table::SlotTableCarrier;
+use slots::table::SlotTableExtractor;
+use slots::table::SlotTableInjector;
 use std::alloc::AllocError;
 use std::alloc::Global;
-use text::check::all_in;
-use text::pieces::Pieces;
 use text::trim::trim;
 
-// What is run where no script is given: a job from the recorder to the aligner to the editor.
-const DEFAULT_JOB: &[u8] = b"leg recorder
+// What is run where no script is given: a job from the recorder to the aligner to the editor, over the queue.
+const DEFAULT_JOB: &[u8] = b"carrier queue 4096
+leg recorder
 trace 0000000000000001000000000000000a
 span 00000000000000b7
 priority 2
@@ -27,76 +48,162 @@ leg editor
 traceparent read
 ";
 
-// The line as it stands, or in quotes where it would not show as it is.
-fn show_line(out: &mut Vec<u8>, number: u64, line: &[u8]) -> Result<(), AllocError> {
-    out.extend_from_slice(decimal_u64(number).text())?;
-    out.extend_from_slice(b": ")?;
-    if all_in::<Text>(line) {
-        out.extend_from_slice(line)?;
-    } else {
-        quote(out, line)?;
-    }
-    out.push(b'\n')?;
-    Ok(())
-}
-
-fn show_answer(out: &mut Vec<u8>, answer: Answer) -> Result<(), AllocError> {
-    match answer {
-        Answer::Accepted => out.extend_from_slice(b"   accepted\n")?,
-        Answer::Refused(number) => {
-            out.extend_from_slice(b"   refused ")?;
-            out.extend_from_slice(decimal_u64(u64::from(number)).text())?;
-            out.push(b'\n')?;
-        }
-    }
-    Ok(())
-}
-
-// Makes the call of one line and shows what is there after it.
-fn run_line(
+// The calls of a section on a pile of up to two layers.
+fn run_pile<'a, C: Extractor + Injector + Content + Drop>(
     heap: Global,
     job: &mut Job,
+    bottom: C,
+    upper: Option<Prefix>,
+    lower: Option<Prefix>,
+    lines: &mut Lines<'a>,
     out: &mut Vec<u8>,
-    number: u64,
-    line: &[u8],
-) -> Result<(), AllocError> {
-    show_line(out, number, line)?;
-    match read_call(heap, line)? {
-        None => {
-            out.extend_from_slice(b"   line ")?;
-            out.extend_from_slice(decimal_u64(number).text())?;
-            out.extend_from_slice(b" cannot be read\n")?;
+) -> Result<Option<&'a [u8]>, AllocError> {
+    match (upper, lower) {
+        (Some(upper), Some(lower)) => {
+            let mut pile = Prefixed::new(Prefixed::new(bottom, lower), upper);
+            run_section(heap, job, &mut pile, lines, out)
         }
-        Some(Call::Leg) => {}
-        Some(call) => {
-            let answer = job.make(heap, call)?;
-            show_answer(out, answer)?;
-            job.show(out)?;
+        (Some(prefix), None) | (None, Some(prefix)) => {
+            let mut pile = Prefixed::new(bottom, prefix);
+            run_section(heap, job, &mut pile, lines, out)
+        }
+        (None, None) => {
+            let mut pile = bottom;
+            run_section(heap, job, &mut pile, lines, out)
         }
     }
-    Ok(())
+}
+
+// The prefix that a word gives, if it gives one; its refusal's number if it is unlawful.
+fn read_prefix(word: &Option<Vec<u8>>) -> Result<Option<Prefix>, u8> {
+    match word {
+        None => Ok(None),
+        Some(bytes) => match Prefix::new(bytes) {
+            Ok(prefix) => Ok(Some(prefix)),
+            Err(fault) => Err(fault.number()),
+        },
+    }
+}
+
+// The calls of a section on empty slots: where no carrier is chosen, or the one chosen is refused.
+fn run_slots<'a>(
+    heap: Global,
+    job: &mut Job,
+    lines: &mut Lines<'a>,
+    out: &mut Vec<u8>,
+) -> Result<Option<&'a [u8]>, AllocError> {
+    let mut slots = SlotTable::new();
+    run_section(heap, job, &mut slots, lines, out)
+}
+
+fn run_refused<'a>(
+    heap: Global,
+    job: &mut Job,
+    number: u8,
+    lines: &mut Lines<'a>,
+    out: &mut Vec<u8>,
+) -> Result<Option<&'a [u8]>, AllocError> {
+    show_answer(out, Answer::Refused(number))?;
+    run_slots(heap, job, lines, out)
+}
+
+// The calls of a section on the bottom that was chosen.
+fn run_bottom<'a>(
+    heap: Global,
+    job: &mut Job,
+    bottom: Bottom,
+    upper: Option<Prefix>,
+    lower: Option<Prefix>,
+    lines: &mut Lines<'a>,
+    out: &mut Vec<u8>,
+) -> Result<Option<&'a [u8]>, AllocError> {
+    match bottom {
+        Bottom::Slots => {
+            show_answer(out, Answer::Accepted)?;
+            run_pile(heap, job, SlotTable::new(), upper, lower, lines, out)
+        }
+        Bottom::Block { memory, len } => {
+            let mut memory = memory;
+            match LineBlock::open(&mut memory, len) {
+                Ok(block) => {
+                    show_answer(out, Answer::Accepted)?;
+                    run_pile(heap, job, block, upper, lower, lines, out)
+                }
+                Err(fault) => run_refused(heap, job, fault.number(), lines, out),
+            }
+        }
+        Bottom::Queue { memory, len } => {
+            let mut memory = memory;
+            match open_queue(&mut memory, len) {
+                Ok(pile) => {
+                    show_answer(out, Answer::Accepted)?;
+                    run_pile(heap, job, pile, upper, lower, lines, out)
+                }
+                Err(fault) => run_refused(heap, job, fault.number(), lines, out),
+            }
+        }
+    }
+}
+
+fn run_choice<'a>(
+    heap: Global,
+    job: &mut Job,
+    choice: Choice,
+    lines: &mut Lines<'a>,
+    out: &mut Vec<u8>,
+) -> Result<Option<&'a [u8]>, AllocError> {
+    let upper = match read_prefix(&choice.upper) {
+        Ok(prefix) => prefix,
+        Err(number) => return run_refused(heap, job, number, lines, out),
+    };
+    let lower = match read_prefix(&choice.lower) {
+        Ok(prefix) => prefix,
+        Err(number) => return run_refused(heap, job, number, lines, out),
+    };
+    let Choice {
+        upper: _,
+        lower: _,
+        bottom,
+    } = choice;
+    run_bottom(heap, job, bottom, upper, lower, lines, out)
+}
+
+// A section that begins with the line that chooses its carrier.
+fn run_chosen<'a>(
+    heap: Global,
+    job: &mut Job,
+    line: &[u8],
+    lines: &mut Lines<'a>,
+    out: &mut Vec<u8>,
+) -> Result<Option<&'a [u8]>, AllocError> {
+    show_line(out, lines.number(), line)?;
+    match read_choice(heap, line)? {
+        Some(choice) => run_choice(heap, job, choice, lines, out),
+        None => {
+            show_unreadable(out, lines.number())?;
+            run_slots(heap, job, lines, out)
+        }
+    }
 }
 
 // Runs the script, or the default job where it is empty, and answers what there is to print. A line that cannot be read is said to be
 // so, and the rest goes on.
 pub fn run(heap: Global, script: &[u8]) -> Result<Vec<u8>, AllocError> {
+    let text = if trim(script).is_empty() {
+        DEFAULT_JOB
+    } else {
+        script
+    };
     let mut out = Vec::new(heap);
     let mut job = Job::new();
-    let mut number: u64 = 0;
-    let mut lines = Pieces::new(
-        if trim(script).is_empty() {
-            DEFAULT_JOB
-        } else {
-            script
-        },
-        b'\n',
-    );
-    while let Some(line) = lines.next() {
-        number = number.saturating_add(1);
-        let line = trim(line);
-        if !line.is_empty() && line[0] != b'#' {
-            run_line(heap, &mut job, &mut out, number, line)?;
-        }
+    let mut lines = Lines::new(text);
+    let mut chosen = run_slots(heap, &mut job, &mut lines, &mut out)?;
+    // There are fewer sections than bytes.
+    for _ in 0..text.len() {
+        let Some(line) = chosen else {
+            break;
+        };
+        chosen = run_chosen(heap, &mut job, line, &mut lines, &mut out)?;
     }
     Ok(out)
 }

@@ -1,0 +1,10 @@
+pub mod Answers
+pub mod Blocks
+pub mod Kept
+pub mod Kind
+pub mod Laws
+pub mod Lines
+pub mod Machine
+pub mod Openings
+pub mod Parts
+pub mod Spans

@@ -1,0 +1,5 @@
+mod Fronts
+mod Joining
+mod Listing
+mod Others
+mod Piling

@@ -1,0 +1,7 @@
+mod Filled
+mod Filling
+mod Keeping
+mod Listing
+mod Looking
+mod Placing
+mod Sought

@@ -1,0 +1,5 @@
+pub mod Laws
+pub mod Places
+pub mod Rules
+pub mod Slots
+pub mod Tables
