@@ -1,0 +1,6 @@
+pub mod Contents
+pub mod Laws
+pub mod Layout
+pub mod Spots
+pub mod Stores
+pub mod Tags
