@@ -9,3 +9,5 @@ mod number_cases;
 mod text_cases;
 #[cfg(test)]
 mod traceparent_cases;
+#[cfg(test)]
+mod tracestate_cases;

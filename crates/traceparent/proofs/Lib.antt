@@ -1,2 +1,3 @@
 mod Lengths
 pub mod ReadBack
+mod Shapes

@@ -23,19 +23,11 @@ use Rattle.text.specs.Texts.{all}
 use Rattle.trace.specs.Traces.{isZero, keeps}
 use Rattle.trace.specs.declared.ids.TraceId.{TraceId}
 use Rattle.traceparent.specs.Laws.{Reads-as, Written-reads-back}
+use Rattle.traceparent.proofs.Shapes.{taken-hex}
 use Rattle.traceparent.specs.Reads.{readTraceparent, sampled}
 use Rattle.traceparent.specs.Writes.{flagsText, traceparentText}
 use Rattle.traceparent.specs.declared.read.Traceparent.{Traceparent}
 use Rattle.traceparent.specs.declared.read.TraceparentFault.{TraceparentFault}
-
--- digits in front of more text are taken whole
-taken-hex : (n : ℕ) (xs rest : List ℕ) → length xs ≡ n → all hex xs ≡ true → takenHex n (xs ++ rest) ≡ Some (xs, rest)
-unfolding takenHex
-taken-hex n xs rest e h =
-    let front = take-at xs rest n e in
-    let room : n ≤ length (xs ++ rest) = omega (arith, length-append xs rest) in
-    cond-true _ _ None (and-from (leb n (length (xs ++ rest))) (all hex (take n (xs ++ rest))) (le-leb _ _ room) (ap (all hex) front ∙ h))
-    ∙ (λ i. Some (front i, drop-at xs rest n e i))
 
 taken-hexText : (n : ℕ) (rest : List ℕ) → takenHex 16 (hexText 16 n ++ rest) ≡ Some (hexText 16 n, rest)
 taken-hexText n rest = taken-hex 16 (hexText 16 n) rest (length-hexText 16 n) (hex-form 16 n .1)

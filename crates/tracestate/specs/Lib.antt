@@ -1,3 +1,4 @@
+pub mod Cases
 pub mod Items
 pub mod Lists
 pub mod Members
