@@ -5,7 +5,7 @@ use Rattle.std.proofs.lemmas.Bool.{both_ways, and_right, le-leb}
 use Rattle.std.proofs.lemmas.Bool.Decides.{nat_tests}
 use Rattle.std.specs.Option.{option_map}
 use Rattle.std.specs.Str.{bytes_eq}
-use Rattle.bytes.specs.Sets.{text, name}
+use Rattle.byte_classes.specs.Sets.{text, name}
 use Rattle.text.specs.Splits.{after, split_once}
 use Rattle.text.specs.Takes.{taken_char}
 use Rattle.text.specs.Texts.{all, lawful}

@@ -2,7 +2,7 @@
 use Rattle.std.proofs.Common.{◌≡◌, ℕ, ◌+◌, Bool, true, false, cond, not, eqb, ltb, leb, List, [], ◌∷◌, ◌++◌, length, Some, None, Option, sym, refl, ap, ◌∙◌, append_assoc, arith, length-append}
 use Rattle.std.proofs.lemmas.Bool.{and_parts, and_from, eqb-true}
 use Rattle.std.proofs.lemmas.Bool.Decides.{nat_tests}
-use Rattle.bytes.specs.Sets.{text, name}
+use Rattle.byte_classes.specs.Sets.{text, name}
 use Rattle.text.specs.Laws.{Lacks}
 use Rattle.text.specs.Splits.{other, split_once}
 use Rattle.text.specs.Takes.{taken_char}

@@ -1,6 +1,6 @@
 -- The machine that checks a block: its steps, and its run over a text. Assumes nothing.
 use Rattle.std.specs.Prelude.{ℕ, ◌+◌, Bool, false, cond, ◌&&◌, List, [], ◌∷◌, Some, None, Option, ◌==◌, nat_lt}
-use Rattle.bytes.specs.Sets.{text, name}
+use Rattle.byte_classes.specs.Sets.{text, name}
 use Rattle.block.specs.Lines.{bind}
 use Rattle.block.specs.declared.machine.State.{State}
 use Rattle.block.specs.declared.machine.State.TheVariants.{Name, Blank, Value, LineEnd}

@@ -3,7 +3,7 @@ ghost use Rattle.std.specs.Prelude.{◌≡◌};
 ghost use Rattle.block.specs.Lines.{well_formed};
 ghost use Rattle.block.specs.Machine.{step, run, start, accepts, at_start};
 
-use bytes::sets::{ByteTest, Name, Text};
+use byte_classes::sets::{ByteTest, Name, Text};
 use carrier::names::MAX_NAME;
 use text::check::MAX_TEXT;
 

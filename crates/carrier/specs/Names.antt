@@ -1,7 +1,7 @@
 -- Names, lists of names, and tables from names to values. Assumes nothing.
 use Rattle.std.specs.Prelude.{◌≡◌, ℕ, Bool, true, false, not, ◌&&◌, ◌||◌, List, [], ◌∷◌, length, is_some, Option, nat_le, nat_lt}
 use Rattle.std.specs.Str.{bytes_eq}
-use Rattle.bytes.specs.Sets.{name}
+use Rattle.byte_classes.specs.Sets.{name}
 use Rattle.text.specs.Texts.{all}
 
 -- a name has 1 to 64 name bytes

@@ -2,7 +2,7 @@
 ghost use Rattle.std.specs.Prelude.{◌≡◌};
 ghost use Rattle.carrier.specs.Names.{is_name};
 
-use bytes::sets::Name;
+use byte_classes::sets::Name;
 use text::check::all_in;
 
 // The longest name.

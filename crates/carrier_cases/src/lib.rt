@@ -1,4 +1,6 @@
 // Examples of carriers, at the limits that the rules name.
+#![tactic(auto)]
+
 #[cfg(test)]
 mod block_cases;
 #[cfg(test)]

@@ -1,5 +1,5 @@
 // Every byte value, against the rules of the sets written out once more.
-use bytes::sets::*;
+use byte_classes::sets::*;
 
 fn is_visible(b: u8) -> bool {
     b >= 0x21 && b <= 0x7e

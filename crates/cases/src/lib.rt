@@ -1,4 +1,6 @@
 // Examples of the public calls, at the limits that the rules name. A crate of tests is proved twice, so they stand apart.
+#![tactic(auto)]
+
 #[cfg(test)]
 mod bytes_cases;
 #[cfg(test)]

@@ -1,5 +1,5 @@
 // Texts: empty, one byte, at the limits.
-use bytes::sets::*;
+use byte_classes::sets::*;
 use std::test::Fail;
 use text::append::append;
 use text::check::{is_lawful, same};

@@ -1,3 +1,5 @@
 // The Datadog form, written.
+#![tactic(auto)]
+
 pub mod answer;
 pub mod stub;

@@ -4,7 +4,7 @@ use mathlib.Core.List.{reverse-reverse}
 use Rattle.std.proofs.lemmas.Bool.{and_parts, and_from}
 use Rattle.std.proofs.lemmas.Bool.Decides.{nat_tests}
 use Rattle.std.specs.List.{prefix_len}
-use Rattle.bytes.specs.Sets.{blank, space, digit, hex, tracestate_value, tag_key_replaced, tag_value_replaced, equals, tilde}
+use Rattle.byte_classes.specs.Sets.{blank, space, digit, hex, tracestate_value, tag_key_replaced, tag_value_replaced, equals, tilde}
 use Rattle.text.proofs.Alls.{all-reverse}
 use Rattle.text.proofs.Trimming.{back_mirrored, front-passes, back_off}
 use Rattle.text.specs.Laws.{bare}

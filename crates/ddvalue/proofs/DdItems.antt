@@ -3,7 +3,7 @@ use Rattle.std.proofs.Common.{◌≡◌, ℕ, ◌+◌, ◌-◌, ◌<◌, ◌≤�
 use Rattle.std.proofs.ByRecursion.{All-append}
 use Rattle.std.proofs.lemmas.Bool.{ltb-true}
 use Rattle.std.specs.List.{AllByRecursion as All}
-use Rattle.bytes.specs.Sets.{hex, blank, tag_key_replaced}
+use Rattle.byte_classes.specs.Sets.{hex, blank, tag_key_replaced}
 use Rattle.text.proofs.Alls.{All-append as bytes-append}
 use Rattle.text.specs.Texts.{all}
 use Rattle.number.specs.Numbers.{small_text}

@@ -1,7 +1,7 @@
 -- A dd value is a lawful tracestate value, and not too long. Assumes nothing.
 use Rattle.std.proofs.Common.{◌≡◌, ℕ, ◌+◌, ◌-◌, ◌<◌, ◌≤◌, Bool, true, false, cond, not, ◌&&◌, eqb, ltb, leb, List, [], ◌∷◌, ◌++◌, length, get_or, take, ℤ, pos, Some, None, codes, Option, unwrap_or, sym, refl, ap, ◌∙◌, subst, arith}
 use Rattle.std.proofs.lemmas.Bool.{and_parts, and_from, lt-ltb, le-leb, ltb-true, eqb-true}
-use Rattle.bytes.specs.Sets.{hex, space, tracestate_value}
+use Rattle.byte_classes.specs.Sets.{hex, space, tracestate_value}
 use Rattle.text.specs.Texts.{all}
 use Rattle.number.proofs.HexText.{hex_form}
 use Rattle.number.specs.Numbers.{hex_text}

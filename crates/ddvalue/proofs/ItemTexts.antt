@@ -6,7 +6,7 @@ use Rattle.std.proofs.lemmas.Bool.{and_parts, and_from}
 use Rattle.std.proofs.lemmas.Bool.Decides.{nat_tests}
 use Rattle.std.specs.List.{AllByRecursion as All}
 use Rattle.std.specs.Option.{option_map}
-use Rattle.bytes.specs.Sets.{blank, space, tracestate_value}
+use Rattle.byte_classes.specs.Sets.{blank, space, tracestate_value}
 use Rattle.text.proofs.Alls.{all_append, all-reverse}
 use Rattle.text.proofs.Joins.{pieces-front, pieces_one}
 use Rattle.text.proofs.Splitting.{split_found}

@@ -4,7 +4,7 @@ use lib.Signed.{le_z, le_z_yes}
 use Rattle.std.proofs.lemmas.Int.{ints}
 use Rattle.std.proofs.lemmas.Bool.{and_parts, and_from, or_left, or_cases}
 use Rattle.std.proofs.lemmas.Bool.Decides.{nat_tests}
-use Rattle.bytes.specs.Sets.{space, digit, hex, tracestate_value, tilde}
+use Rattle.byte_classes.specs.Sets.{space, digit, hex, tracestate_value, tilde}
 use Rattle.text.proofs.Alls.{all-reverse}
 use Rattle.text.specs.Laws.{bare}
 use Rattle.text.specs.Texts.{all, replaced}

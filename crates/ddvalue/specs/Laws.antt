@@ -1,7 +1,7 @@
 -- The laws of dd values: they are lawful, they read back item by item, and after one round trip they stay. Assumes nothing.
 use Rattle.std.specs.Prelude.{◌≡◌, ℕ, ◌-◌, ◌≤◌, Bool, true, cond, List, [], ◌∷◌, ◌++◌, map, length, take, ℤ, pos, Some, None, codes, Option, nat_le, nat_lt}
 use Rattle.std.specs.Option.{unwrap_or}
-use Rattle.bytes.specs.Sets.{hex}
+use Rattle.byte_classes.specs.Sets.{hex}
 use Rattle.text.specs.Texts.{all}
 use Rattle.number.specs.Numbers.{small, small_text}
 use Rattle.tracestate.specs.Items.{items, heard, tags, standing}

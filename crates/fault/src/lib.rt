@@ -1,4 +1,6 @@
 // Refusals: one type for all of them, with a number, the original's words, and at a full carrier the carrier's own fault.
+#![tactic(auto)]
+
 ghost use Rattle.std.specs.Prelude.{◌≡◌};
 ghost use Rattle.fault.specs.Faults.{header_of, header_text, number, message_text, operation_text, propagator_text};
 

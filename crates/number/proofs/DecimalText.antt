@@ -3,7 +3,7 @@ use Rattle.std.proofs.Common.{◌≡◌, ℕ, zero, suc, ◌+◌, ◌*◌, ◌^�
 use Rattle.std.proofs.lemmas.Fmt.{decimal_digit, decimal_nonempty, digits_decimal, first_decimal, length-decimal-le, digits_value-decimal}
 use Rattle.std.proofs.lemmas.Str.Parse.{IsNumeralModel, IsDigitsTest, FoldsDigits, numerals_by_fold}
 use Rattle.std.proofs.lemmas.Int.{ints}
-use Rattle.bytes.specs.Sets.{digit}
+use Rattle.byte_classes.specs.Sets.{digit}
 use Rattle.text.specs.Texts.{all}
 use Rattle.number.specs.Numbers.{value_after, decimal_text, small_text, mechanism_text}
 use Rattle.number.specs.Laws.{DecimalForm, SmallForm, MechanismForm}

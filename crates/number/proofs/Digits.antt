@@ -1,7 +1,7 @@
 -- One digit: its value, and the byte that writes it. Assumes nothing.
 use Rattle.std.proofs.Common.{◌≡◌, ℕ, ◌-◌, ◌<◌, true, arith}
 use Rattle.std.proofs.lemmas.Bool.Decides.{nat_tests}
-use Rattle.bytes.specs.Sets.{digit, hex, any_hex}
+use Rattle.byte_classes.specs.Sets.{digit, hex, any_hex}
 use Rattle.number.specs.Numbers.{digit_value, glyph}
 
 pub value-small : (b : ℕ) → digit_value b < 16

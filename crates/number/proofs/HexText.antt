@@ -3,7 +3,7 @@ use Rattle.std.proofs.Common.{◌≡◌, ℕ, zero, suc, ◌+◌, ◌*◌, ◌/�
 use lib.Arith.{digits_div, digits_mod}
 use Rattle.std.proofs.lemmas.List.{take_all, take_more, length-take-le}
 use Rattle.std.proofs.lemmas.Bool.{and_from, and_parts}
-use Rattle.bytes.specs.Sets.{hex}
+use Rattle.byte_classes.specs.Sets.{hex}
 use Rattle.text.specs.Texts.{all}
 use Rattle.number.specs.Numbers.{digit_value, value_after, glyph, hex_text}
 use Rattle.number.specs.Laws.{HexForm}

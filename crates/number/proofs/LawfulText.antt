@@ -3,7 +3,7 @@ use Rattle.std.proofs.Common.{◌≡◌, ℕ, suc, ◌^◌, ◌<◌, ◌≤◌, 
 use Rattle.std.proofs.lemmas.Int.{ints}
 use Rattle.std.proofs.lemmas.Bool.{and_parts, and_from, le-leb}
 use Rattle.std.proofs.lemmas.Bool.Decides.{nat_tests}
-use Rattle.bytes.specs.Sets.{text, digit, hex}
+use Rattle.byte_classes.specs.Sets.{text, digit, hex}
 use Rattle.text.specs.Texts.{all, lawful}
 use Rattle.number.specs.Laws.{DecimalsLawful, SmallsLawful, MechanismsLawful, HexesLawful}
 use Rattle.number.specs.Numbers.{decimal_text, small_text, mechanism_text, hex_text}

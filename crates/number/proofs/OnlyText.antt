@@ -1,7 +1,7 @@
 -- Lower-case hexadecimal text that reads as a number is the text that is written of it. Assumes nothing.
 use Rattle.std.proofs.Common.{◌≡◌, ℕ, ◌^◌, ◌<◌, eqb, List, length, Some}
 use Rattle.std.proofs.lemmas.Bool.{eqb-true}
-use Rattle.bytes.specs.Sets.{hex}
+use Rattle.byte_classes.specs.Sets.{hex}
 use Rattle.number.specs.Numbers.{numeral, hex_number, hex_text}
 use Rattle.number.specs.Laws.{OnlyHexText}
 use Rattle.number.proofs.HexText.{text_from_reads}

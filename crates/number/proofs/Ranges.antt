@@ -3,7 +3,7 @@ use Rattle.std.proofs.Common.{◌≡◌, ℕ, zero, suc, ◌^◌, ◌<◌, ◌�
 use lib.Signed.{le_z_yes}
 use Rattle.std.proofs.lemmas.Bool.{leb-true}
 use Rattle.std.specs.Option.{option_map}
-use Rattle.bytes.specs.Sets.{digit, hex, any_hex}
+use Rattle.byte_classes.specs.Sets.{digit, hex, any_hex}
 use Rattle.number.specs.Laws.{ReadsFit}
 use Rattle.number.specs.Numbers.{after_plus, hex_number, mechanism, minus, number64, numeral, small, tid, up_to}
 use Rattle.number.proofs.Numerals.{cond-some-parts, reads_from_numeral}

@@ -3,7 +3,7 @@ use Rattle.std.proofs.Common.{◌≡◌, ℕ, suc, ◌^◌, ◌<◌, ◌≤◌, 
 use Rattle.std.proofs.lemmas.Int.{ints}
 use Rattle.std.proofs.lemmas.Bool.{cond-true, cond-false, eq-eqb, le-leb}
 use Rattle.std.specs.Option.{option_map}
-use Rattle.bytes.specs.Sets.{digit, hex, any_hex}
+use Rattle.byte_classes.specs.Sets.{digit, hex, any_hex}
 use Rattle.number.specs.Numbers.{numeral, up_to, plus, after_plus, number64, small, mechanism, hex_number, tid, decimal_text, small_text, mechanism_text, hex_text}
 use Rattle.number.specs.Laws.{DecimalsReadBack, SmallsReadBack, MechanismsReadBack, HexesReadBack, TidsReadBack}
 use Rattle.number.proofs.Digits.{hex-any_hex}

@@ -1,6 +1,6 @@
 -- The laws of numbers as text, which the contracts of the module `laws` name. Assumes nothing.
 use Rattle.std.specs.Prelude.{◌≡◌, ℕ, ◌-◌, ◌^◌, ◌<◌, ◌≤◌, true, List, length, ℤ, pos, negsuc, ◌≤ℤ◌, Some, None, codes, slice_index}
-use Rattle.bytes.specs.Sets.{digit, hex}
+use Rattle.byte_classes.specs.Sets.{digit, hex}
 use Rattle.text.specs.Texts.{all, lawful}
 use Rattle.number.specs.Numbers.{number64, small, mechanism, hex_number, tid, decimal_text, small_text, mechanism_text, hex_text}
 

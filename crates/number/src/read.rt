@@ -3,7 +3,7 @@ ghost use Rattle.std.specs.Prelude.{◌≡◌};
 ghost use Rattle.std.specs.Option.{option_map};
 ghost use Rattle.number.specs.Numbers.{after_minus, after_plus, digit_value, hex_number, mechanism, number64, numeral, small, tid};
 
-use bytes::sets::{AnyHex, ByteTest, Digit, Hex};
+use byte_classes::sets::{AnyHex, ByteTest, Digit, Hex};
 
 // The value of a digit of any base up to 16, and 0 for a byte that is none.
 fn digit_value(b: u8) -> u8

@@ -8,7 +8,7 @@ use Rattle.std.proofs.lemmas.Bool.Decides.{same_from_decides, Decides-like, Deci
 use Rattle.std.specs.Option.{option_map}
 use Rattle.std.specs.List.{slice_get}
 use Rattle.std.specs.Str.{bytes_eq}
-use Rattle.bytes.specs.Sets.{name}
+use Rattle.byte_classes.specs.Sets.{name}
 use Rattle.text.proofs.Prefixes.{strip_is, strip_only}
 use Rattle.text.specs.Takes.{stripped}
 use Rattle.text.specs.Texts.{all}

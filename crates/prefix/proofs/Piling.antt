@@ -1,7 +1,7 @@
 -- Two layers as one. Assumes nothing.
 use Rattle.std.proofs.Common.{◌≡◌, ℕ, ◌+◌, ◌<◌, ◌≤◌, Bool, true, false, cond, ◌&&◌, ltb, leb, ◌⊎◌, List, ◌++◌, length, None, Option, sym, refl, ap, ◌∙◌, inl, inr, append_assoc, arith, length-append}
 use Rattle.std.proofs.lemmas.Bool.{and_parts, and_from, and_right, ltb-true, lt-ltb, le-leb, lt-leb, cases_lt}
-use Rattle.bytes.specs.Sets.{name}
+use Rattle.byte_classes.specs.Sets.{name}
 use Rattle.text.proofs.Alls.{all_append}
 use Rattle.text.specs.Texts.{all}
 use Rattle.carrier.specs.Kinds.{Kind}

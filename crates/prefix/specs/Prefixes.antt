@@ -1,6 +1,6 @@
 -- Prefixes, and names joined to them. Assumes nothing.
 use Rattle.std.specs.Prelude.{ℕ, ◌+◌, Bool, cond, ◌&&◌, List, ◌++◌, length, take, Some, None, Ok, Err, Option, Result, nat_le, nat_lt}
-use Rattle.bytes.specs.Sets.{name}
+use Rattle.byte_classes.specs.Sets.{name}
 use Rattle.text.specs.Texts.{all}
 use Rattle.carrier.specs.Names.{is_name}
 use Rattle.prefix.specs.declared.prefixes.Joined.{Joined}

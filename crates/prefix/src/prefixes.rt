@@ -3,7 +3,7 @@ ghost use Rattle.std.specs.Prelude.{◌≡◌, ◌+◌, ◌≤◌, ◌++◌, len
 ghost use Rattle.std.specs.Option.{option_map};
 ghost use Rattle.prefix.specs.Prefixes.{front, made, prefix_answer, number, full_name, joined};
 
-use bytes::sets::Name;
+use byte_classes::sets::Name;
 use carrier::names::{MAX_NAME, is_name};
 use text::check::all_in;
 

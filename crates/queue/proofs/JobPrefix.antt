@@ -1,6 +1,6 @@
 -- The prefix of a queue's headers is lawful. Assumes nothing.
 use Rattle.std.proofs.Common.{◌≡◌, ℕ, List, Ok, Err, codes, Result, arith}
-use Rattle.bytes.specs.Sets.{name}
+use Rattle.byte_classes.specs.Sets.{name}
 use Rattle.prefix.specs.Prefixes.{is_prefix, prefix_answer}
 use Rattle.prefix.specs.declared.prefixes.UnlawfulPrefix.{UnlawfulPrefix}
 

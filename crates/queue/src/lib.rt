@@ -1,4 +1,6 @@
 // The pile that queue jobs use: the prefix `job-` over a line block.
+#![tactic(auto)]
+
 ghost use Rattle.std.specs.Prelude.{◌≡◌, IfOk, if◌then◌else◌};
 ghost use Rattle.block.specs.Answers.{refusal};
 ghost use Rattle.block.specs.Blocks.{opens};

@@ -1,4 +1,6 @@
 // Takes one job along its way. It reads a job script on standard input; with none it runs the default job.
+#![tactic(auto)]
+
 use std::io;
 use std::io::Read;
 

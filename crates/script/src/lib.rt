@@ -1,4 +1,6 @@
 // Job scripts: one call a line, replayed, with what each call answered. docs/SCRIPT.md has the format.
+#![tactic(auto)]
+
 mod call;
 mod choice;
 mod content;

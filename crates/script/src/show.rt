@@ -1,7 +1,7 @@
 // How lines and answers are shown.
 use crate::quote::quote;
 use crate::state::Answer;
-use bytes::sets::Text;
+use byte_classes::sets::Text;
 use number::write::decimal_u64;
 use std::alloc::AllocError;
 use text::check::all_in;

@@ -1,5 +1,5 @@
 // The words of a line.
-use bytes::sets::{Blank, ByteTest};
+use byte_classes::sets::{Blank, ByteTest};
 use text::split::split_once;
 use text::trim::trim;
 

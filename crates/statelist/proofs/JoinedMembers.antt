@@ -3,7 +3,7 @@ use Rattle.std.proofs.Common.{◌≡◌, ℕ, suc, ◌+◌, ◌*◌, ◌<◌, �
 use Rattle.std.proofs.lemmas.List.{take_all}
 use Rattle.std.proofs.lemmas.Bool.{and_from, cond-true, cond-false, ne_eqb, lt-ltb}
 use Rattle.std.specs.List.{AllByRecursion as All}
-use Rattle.bytes.specs.Sets.{text}
+use Rattle.byte_classes.specs.Sets.{text}
 use Rattle.text.specs.Laws.{Lacks, joined_by}
 use Rattle.text.specs.Splits.{pieces}
 use Rattle.text.specs.Texts.{all}

@@ -4,7 +4,7 @@ use mathlib.Core.List.{reverse-append}
 use Rattle.std.proofs.lemmas.List.{get_or-reverse, length-reverse}
 use Rattle.std.proofs.lemmas.Bool.{cases_Bool, both_ways, and_parts, and_from, cond-true, eqb-true, leb-true, ltb-true, not-true, not_from_false, or_left, or_right}
 use Rattle.std.proofs.lemmas.Bool.Decides.{nat_tests}
-use Rattle.bytes.specs.Sets.{blank, letter_or_digit, space, text, tracestate_key, tracestate_value}
+use Rattle.byte_classes.specs.Sets.{blank, letter_or_digit, space, text, tracestate_key, tracestate_value}
 use Rattle.text.specs.Laws.{bare, Lacks}
 use Rattle.text.specs.Splits.{other, split_once}
 use Rattle.text.specs.Texts.{all}

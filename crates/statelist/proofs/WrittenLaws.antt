@@ -4,7 +4,7 @@ use Rattle.std.proofs.ByRecursion.{All-weaker}
 use Rattle.std.proofs.lemmas.Slice.Eq.{bytes_eq-Decides}
 use Rattle.std.proofs.lemmas.Bool.{both_ways, and_from, le-leb}
 use Rattle.std.specs.Str.{bytes_eq}
-use Rattle.bytes.specs.Sets.{text}
+use Rattle.byte_classes.specs.Sets.{text}
 use Rattle.text.specs.Laws.{joined_by}
 use Rattle.text.specs.Splits.{pieces}
 use Rattle.text.specs.Texts.{all, lawful}

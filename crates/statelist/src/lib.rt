@@ -1,4 +1,6 @@
 // A tracestate list, written.
+#![tactic(auto)]
+
 mod choose;
 pub mod laws;
 pub mod write;

@@ -1,4 +1,6 @@
 // The tag store: an origin, an ot value and tags in ascending byte order of their keys, in memory that the caller hands in.
+#![tactic(auto)]
+
 pub mod faults;
 pub mod laws;
 pub mod memory;

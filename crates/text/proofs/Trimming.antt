@@ -4,7 +4,7 @@ use mathlib.Core.List.{reverse-append, reverse-reverse}
 use Rattle.std.proofs.lemmas.List.{take_at, drop_at, take-append-drop, length-reverse}
 use Rattle.std.proofs.lemmas.Bool.{and_parts, not-true, cond-true, cond-false}
 use Rattle.std.specs.List.{prefix_len, suffix_len}
-use Rattle.bytes.specs.Sets.{blank}
+use Rattle.byte_classes.specs.Sets.{blank}
 use Rattle.text.specs.Laws.{bare, Trims, TrimIs, TrimOnly}
 use Rattle.text.specs.Texts.{all}
 use Rattle.text.specs.Trims.{without_front, without_back, trimmed}

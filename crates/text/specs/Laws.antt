@@ -2,7 +2,7 @@
 -- Assumes nothing.
 use Rattle.std.specs.Prelude.{◌≡◌, ℕ, Bool, true, false, not, List, [], ◌∷◌, ◌++◌, reverse, Some, None}
 use Rattle.std.specs.List.{AllByRecursion as All}
-use Rattle.bytes.specs.Sets.{blank}
+use Rattle.byte_classes.specs.Sets.{blank}
 use Rattle.text.specs.Splits.{other, split_once, pieces}
 use Rattle.text.specs.Takes.{stripped}
 use Rattle.text.specs.Texts.{all}

@@ -2,7 +2,7 @@
 use Rattle.std.specs.Prelude.{ℕ, cond, ◌&&◌, List, [], ◌∷◌, length, take, drop, Some, None, Option, ◌==◌, nat_le}
 use Rattle.std.specs.Borrow.{Bor}
 use Rattle.std.specs.Str.{bytes_eq}
-use Rattle.bytes.specs.Sets.{hex}
+use Rattle.byte_classes.specs.Sets.{hex}
 use Rattle.text.specs.Texts.{all}
 
 -- what two parts of a text hold

@@ -1,6 +1,6 @@
 -- What a text is made of. Assumes nothing.
 use Rattle.std.specs.Prelude.{ℕ, Bool, true, cond, ◌&&◌, List, [], ◌∷◌, length, nat_le}
-use Rattle.bytes.specs.Sets.{text}
+use Rattle.byte_classes.specs.Sets.{text}
 
 -- every byte passes the test
 abbrev pub all : (ℕ → Bool) → List ℕ → Bool

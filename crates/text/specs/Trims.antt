@@ -1,7 +1,7 @@
 -- A text without the bytes of a set at its ends. Assumes nothing.
 use Rattle.std.specs.Prelude.{ℕ, ◌-◌, Bool, List, length, take, drop}
 use Rattle.std.specs.List.{prefix_len, suffix_len}
-use Rattle.bytes.specs.Sets.{blank}
+use Rattle.byte_classes.specs.Sets.{blank}
 
 -- without the longest front of bytes that pass
 unfoldable pub without_front : (ℕ → Bool) → List ℕ → List ℕ

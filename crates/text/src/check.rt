@@ -3,7 +3,7 @@ ghost use Rattle.std.specs.Prelude.{◌≡◌};
 ghost use Rattle.std.specs.Str.{bytes_eq};
 ghost use Rattle.text.specs.Texts.{all, lawful};
 
-use bytes::sets::{ByteTest, Text};
+use byte_classes::sets::{ByteTest, Text};
 
 // The longest lawful text.
 pub const MAX_TEXT: usize = 16_384;

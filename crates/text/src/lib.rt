@@ -1,4 +1,6 @@
 // Texts and their parts: lawful text, blanks off, pieces between separators, what is taken from the front, bytes replaced.
+#![tactic(auto)]
+
 pub mod append;
 pub mod check;
 pub mod laws;

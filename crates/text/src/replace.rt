@@ -2,7 +2,7 @@
 ghost use Rattle.std.specs.Prelude.{◌≡◌, map};
 ghost use Rattle.text.specs.Texts.{replaced};
 
-use bytes::sets::ByteTest;
+use byte_classes::sets::ByteTest;
 
 // Each byte of the set becomes `by`.
 pub fn replace_chars<S: ByteTest>(text: &mut [u8], by: u8)

@@ -4,7 +4,7 @@ ghost use Rattle.std.specs.Option.{option_map};
 ghost use Rattle.text.specs.Takes.{both, taken_char, taken_hex, stripped};
 
 use crate::check::{all_in, same};
-use bytes::sets::Hex;
+use byte_classes::sets::Hex;
 
 // The rest of the text, if its first byte is `c`.
 pub fn take_char(s: &[u8], c: u8) -> Option<&[u8]>

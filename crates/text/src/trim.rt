@@ -3,7 +3,7 @@ ghost use Rattle.std.specs.Prelude.{◌≡◌, ◌-◌, ◌≤◌, length};
 ghost use Rattle.std.specs.List.{prefix_len, suffix_len};
 ghost use Rattle.text.specs.Trims.{without_front, without_back, trimmed};
 
-use bytes::sets::{Blank, ByteTest};
+use byte_classes::sets::{Blank, ByteTest};
 
 // How many bytes at the front are in the set.
 fn front_len<S: ByteTest>(s: &[u8]) -> usize

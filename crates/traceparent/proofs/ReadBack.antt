@@ -3,7 +3,7 @@ use Rattle.std.proofs.Common.{◌≡◌, ℕ, ◌^◌, ◌<◌, ◌≤◌, Bool,
 use mathlib.Core.List.{reverse-append}
 use Rattle.std.proofs.lemmas.List.{take_at, drop_at, append-nil}
 use Rattle.std.proofs.lemmas.Bool.{and_from, cond-true, le-leb, ne_eqb}
-use Rattle.bytes.specs.Sets.{blank, digit, hex}
+use Rattle.byte_classes.specs.Sets.{blank, digit, hex}
 use Rattle.number.proofs.HexText.{length-hex_text, hex_form}
 use Rattle.number.proofs.ReadBack.{hexes_read_back}
 use Rattle.number.specs.Numbers.{digit_value, numeral, hex_number, hex_text}

@@ -3,7 +3,7 @@ use Rattle.std.proofs.Common.{◌≡◌, ℕ, ◌≤◌, Bool, true, false, cond
 use Rattle.std.proofs.lemmas.List.{take_at, drop_at, take-append-drop, length-take-le, nil_from_length}
 use Rattle.std.proofs.lemmas.Bool.{and_from, and_parts, cond-true, cond-false, le-leb, leb-true, eqb-true, ne_eqb}
 use Rattle.std.specs.Option.{option_map}
-use Rattle.bytes.specs.Sets.{hex}
+use Rattle.byte_classes.specs.Sets.{hex}
 use Rattle.text.specs.Takes.{taken_char, taken_hex}
 use Rattle.text.specs.Texts.{all}
 use Rattle.traceparent.specs.Laws.{tail_text, Digits, Shaped, ShapeIs, ShapeOnly}

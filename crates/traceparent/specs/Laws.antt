@@ -1,6 +1,6 @@
 -- What a traceparent is, without saying how it is taken apart; and that what is written is read as the same. Assumes nothing.
 use Rattle.std.specs.Prelude.{◌≡◌, ℕ, ◌^◌, ◌<◌, Bool, true, false, ◌⊎◌, List, [], ◌++◌, length, pos, Some, None, Ok, codes, Option, ◌≢◌}
-use Rattle.bytes.specs.Sets.{hex}
+use Rattle.byte_classes.specs.Sets.{hex}
 use Rattle.text.specs.Texts.{all}
 use Rattle.trace.specs.Traces.{is_zero, keeps, level}
 use Rattle.trace.specs.declared.ids.TraceId.{TraceId}

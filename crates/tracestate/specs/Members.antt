@@ -1,7 +1,7 @@
 -- One member of a tracestate list. Assumes nothing.
 use Rattle.std.specs.Prelude.{ℕ, ◌-◌, Bool, true, false, cond, not, ◌&&◌, List, [], ◌∷◌, length, Some, None, Option, nat_le, nat_lt, slice_index}
 use Rattle.std.specs.Str.{bytes_eq}
-use Rattle.bytes.specs.Sets.{letter_or_digit, space, tracestate_key, tracestate_value}
+use Rattle.byte_classes.specs.Sets.{letter_or_digit, space, tracestate_key, tracestate_value}
 use Rattle.text.specs.Splits.{split_once}
 use Rattle.text.specs.Texts.{all}
 use Rattle.tracestate.specs.declared.member.Member.{Member}

@@ -3,7 +3,7 @@ ghost use Rattle.std.specs.Prelude.{◌≡◌, ℕ};
 ghost use Rattle.std.specs.Option.{option_map};
 ghost use Rattle.tracestate.specs.Members.{is_key, is_part, is_value, member_of, said};
 
-use bytes::sets::{ByteTest, LetterOrDigit, Space, TracestateKey, TracestateValue};
+use byte_classes::sets::{ByteTest, LetterOrDigit, Space, TracestateKey, TracestateValue};
 use text::check::all_in;
 use text::split::split_once;
 

@@ -1,6 +1,6 @@
 -- What the W3C headers say to an extract. Assumes nothing.
 use Rattle.std.specs.Prelude.{ℕ, Bool, true, false, cond, not, ◌&&◌, ◌||◌, List, [], ◌∷◌, ◌++◌, map, ℤ, Some, None, Ok, Err, codes, Option, Result}
-use Rattle.bytes.specs.Sets.{tilde}
+use Rattle.byte_classes.specs.Sets.{tilde}
 use Rattle.text.specs.Texts.{replaced}
 use Rattle.text.specs.Trims.{trimmed}
 use Rattle.number.specs.Numbers.{small}

@@ -1,5 +1,5 @@
 use Rattle.std.proofs.Common.{refl}
-use Rattle.bytes.specs.Sets.{digit, hex, any_hex}
+use Rattle.byte_classes.specs.Sets.{digit, hex, any_hex}
 use Rattle.number.specs.Numbers.{digit_value, numeral, number64, small, mechanism, hex_number, tid}
 use Rattle.number.proofs.laws.limits.Goals as goal
 

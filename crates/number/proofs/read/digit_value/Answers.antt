@@ -1,6 +1,6 @@
 use Rattle.std.proofs.Common.{arith}
 use Rattle.std.proofs.lemmas.Bool.Decides.{nat_tests}
-use Rattle.bytes.specs.Sets.{digit, hex, any_hex}
+use Rattle.byte_classes.specs.Sets.{digit, hex, any_hex}
 use Rattle.number.specs.Numbers.{digit_value}
 use Rattle.number.proofs.read.digit_value.Goals as goal
 

@@ -1,6 +1,6 @@
 use Rattle.std.proofs.Common.{◌&&◌, leb, length, sym, ap, ◌∙◌}
 use Rattle.std.proofs.lemmas.Bool.{le-leb, lt-leb, and_left}
-use Rattle.bytes.specs.Sets.{text}
+use Rattle.byte_classes.specs.Sets.{text}
 use Rattle.text.specs.Texts.{all, lawful}
 use Rattle.text.proofs.check.is_lawful.Goals as goal
 

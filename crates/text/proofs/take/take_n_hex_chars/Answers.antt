@@ -1,5 +1,5 @@
 use Rattle.std.proofs.Common.{◌≡◌, length, take, drop, Some, sym, ap, ◌∙◌, arith}
-use Rattle.bytes.specs.Sets.{hex}
+use Rattle.byte_classes.specs.Sets.{hex}
 use Rattle.text.specs.Texts.{all}
 use Rattle.text.specs.Takes.{taken_hex}
 use Rattle.text.proofs.Takes.{too_short, not-passed, passed}

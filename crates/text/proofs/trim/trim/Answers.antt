@@ -1,5 +1,5 @@
 use Rattle.std.proofs.Common.{ap, ◌∙◌}
-use Rattle.bytes.specs.Sets.{blank}
+use Rattle.byte_classes.specs.Sets.{blank}
 use Rattle.text.specs.Trims.{without_back, trimmed}
 use Rattle.text.proofs.trim.trim.Goals as goal
 

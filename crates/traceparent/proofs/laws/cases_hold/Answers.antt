@@ -1,5 +1,5 @@
 use Rattle.std.proofs.Common.{refl}
-use Rattle.bytes.specs.Sets.{digit, hex}
+use Rattle.byte_classes.specs.Sets.{digit, hex}
 use Rattle.number.specs.Numbers.{digit_value, glyph, hex_number, hex_text, numeral}
 use Rattle.text.specs.Takes.{taken_hex}
 use Rattle.traceparent.specs.Writes.{traceparent_text}

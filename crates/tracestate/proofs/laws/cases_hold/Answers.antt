@@ -1,5 +1,5 @@
 use Rattle.std.proofs.Common.{refl}
-use Rattle.bytes.specs.Sets.{blank, letter_or_digit, space, tracestate_key, tracestate_value}
+use Rattle.byte_classes.specs.Sets.{blank, letter_or_digit, space, tracestate_key, tracestate_value}
 use Rattle.text.specs.Splits.{pieces, split_once}
 use Rattle.text.specs.Takes.{stripped}
 use Rattle.text.specs.Trims.{trimmed, without_back, without_front}

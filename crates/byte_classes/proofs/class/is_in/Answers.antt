@@ -1,8 +1,8 @@
 use Rattle.std.proofs.Common.{arith}
-use Rattle.bytes.specs.Sets.{text, blank, space, digit, hex, any_hex, name, letter_or_digit, tracestate_key, tracestate_value, tag_key_replaced, tag_value_replaced, datadog_key, datadog_value, equals, tilde}
-use Rattle.bytes.proofs.Rows.{rows}
-use Rattle.bytes.proofs.Table.{table_rule, below, agree}
-use Rattle.bytes.proofs.class.is_in.Goals as goal
+use Rattle.byte_classes.specs.Sets.{text, blank, space, digit, hex, any_hex, name, letter_or_digit, tracestate_key, tracestate_value, tag_key_replaced, tag_value_replaced, datadog_key, datadog_value, equals, tilde}
+use Rattle.byte_classes.proofs.Rows.{rows}
+use Rattle.byte_classes.proofs.Table.{table_rule, below, agree}
+use Rattle.byte_classes.proofs.class.is_in.Goals as goal
 
 pub returns : goal.returns
 unfolding rows below agree text blank space digit hex any_hex name letter_or_digit tracestate_key tracestate_value tag_key_replaced tag_value_replaced datadog_key datadog_value equals tilde

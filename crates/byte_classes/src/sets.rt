@@ -1,6 +1,6 @@
 // A type for each set of bytes, so that a loop over a text is written and proved once for all of them.
 ghost use Rattle.std.specs.Prelude.{◌≡◌, ℕ, Bool};
-ghost use Rattle.bytes.specs.Sets.{text, blank, space, digit, hex, any_hex, name, letter_or_digit, tracestate_key, tracestate_value, tag_key_replaced, tag_value_replaced, datadog_key, datadog_value, equals, tilde};
+ghost use Rattle.byte_classes.specs.Sets.{text, blank, space, digit, hex, any_hex, name, letter_or_digit, tracestate_key, tracestate_value, tag_key_replaced, tag_value_replaced, datadog_key, datadog_value, equals, tilde};
 
 use crate::class::{Class, is_in};
 

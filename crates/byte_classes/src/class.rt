@@ -1,6 +1,6 @@
 // The table of byte classes. Every test of a byte against a set goes through it.
 ghost use Rattle.std.specs.Prelude.{◌≡◌};
-ghost use Rattle.bytes.specs.Classes.{bit, member};
+ghost use Rattle.byte_classes.specs.Classes.{bit, member};
 
 // A set of bytes that the rules name. docs/HEADERS.md has them in words, specs/Sets.antt as definitions.
 #[derive(Clone, Copy)]

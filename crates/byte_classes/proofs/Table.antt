@@ -2,9 +2,9 @@
 use Rattle.std.proofs.Common.{◌≡◌, ℕ, zero, suc, ◌<◌, Bool, true, false, not, ◌&&◌, T, eqb, ◌⊎◌, List, [], ◌∷◌, get_or, sym, refl, ap, ◌∙◌, subst, inl, inr, arith}
 use lib.Bits.{bit_and}
 use Rattle.std.proofs.lemmas.Bool.{cases_eq}
-use Rattle.bytes.specs.Classes.{member, bit}
-use Rattle.bytes.specs.declared.class.Class.{Class}
-use Rattle.bytes.specs.declared.class.Class.TheVariants.{Text, Blank, Space, Digit, Hex, AnyHex, Name, LetterOrDigit, TracestateKey, TracestateValue, TagKeyReplaced, TagValueReplaced, DatadogKey, DatadogValue, Equals, Tilde}
+use Rattle.byte_classes.specs.Classes.{member, bit}
+use Rattle.byte_classes.specs.declared.class.Class.{Class}
+use Rattle.byte_classes.specs.declared.class.Class.TheVariants.{Text, Blank, Space, Digit, Hex, AnyHex, Name, LetterOrDigit, TracestateKey, TracestateValue, TagKeyReplaced, TagValueReplaced, DatadogKey, DatadogValue, Equals, Tilde}
 
 left : (a b : Bool) → T (a && b) → T a
 left true b t = tt
