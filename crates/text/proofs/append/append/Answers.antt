@@ -11,5 +11,5 @@ returns c =
     let piece = c.args.piece.now in
     record {
       end = ap (λ k. c.args.at + k) (sym (fits_whole buf piece c.args.at c.min-n.result c.if-at-buf.false c.min-n.ensures));
-      bytes = written buf piece c.args.at c.min-n.result c.if-at-buf.false c.min-n.ensures c.copy-from-slice.new.self c.copy-from-slice.ensures.after;
+      bytes = written buf piece c.args.at c.min-n.result c.if-at-buf.false c.min-n.ensures c.copy_from_slice.new.self c.copy_from_slice.ensures.after;
     }

@@ -4,12 +4,12 @@ use Rattle.byte_classes.specs.Sets.{text}
 use Rattle.text.specs.Texts.{all, lawful}
 use Rattle.text.proofs.check.is_lawful.Goals as goal
 
-pub returns-then-s-le-MAX-TEXT : goal.returns-then-s-le-MAX-TEXT
+pub returns-then-s-le-MAX_TEXT : goal.returns-then-s-le-MAX_TEXT
 unfolding lawful
-returns-then-s-le-MAX-TEXT c = c.all-in.ensures ∙ sym (ap (λ t. t && all text c.args.s.now) (le-leb (length c.args.s.now) 16384 c.if-s-le-MAX-TEXT.true))
+returns-then-s-le-MAX_TEXT c = c.all_in.ensures ∙ sym (ap (λ t. t && all text c.args.s.now) (le-leb (length c.args.s.now) 16384 c.if-s-le-MAX_TEXT.true))
 
-pub returns-else-s-le-MAX-TEXT : goal.returns-else-s-le-MAX-TEXT
+pub returns-else-s-le-MAX_TEXT : goal.returns-else-s-le-MAX_TEXT
 unfolding lawful
-returns-else-s-le-MAX-TEXT c =
-    let no_room = lt-leb (length c.args.s.now) 16384 c.if-s-le-MAX-TEXT.false in
+returns-else-s-le-MAX_TEXT c =
+    let no_room = lt-leb (length c.args.s.now) 16384 c.if-s-le-MAX_TEXT.false in
     no_room ∙ sym (and_left _ (all text c.args.s.now) no_room)

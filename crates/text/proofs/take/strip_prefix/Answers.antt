@@ -14,9 +14,9 @@ returns-then-same c =
     let s = c.args.s.now in
     let prefix = c.args.prefix.now in
     let n = length prefix in
-    ap Some c.split-at.ensures.back
-    ∙ passed n (length s) (bytes_eq (take n s) prefix) (Some (drop n s)) (omega arith) (ap (λ f. bytes_eq f prefix) (sym c.split-at.ensures.front) ∙ sym c.if-same.ensures)
+    ap Some c.split_at.ensures.back
+    ∙ passed n (length s) (bytes_eq (take n s) prefix) (Some (drop n s)) (omega arith) (ap (λ f. bytes_eq f prefix) (sym c.split_at.ensures.front) ∙ sym c.if-same.ensures)
 
 pub returns-else-same : goal.returns-else-same
 unfolding stripped
-returns-else-same c = not-passed _ _ _ _ (ap (λ f. bytes_eq f c.args.prefix.now) (sym c.split-at.ensures.front) ∙ sym c.if-same.ensures)
+returns-else-same c = not-passed _ _ _ _ (ap (λ f. bytes_eq f c.args.prefix.now) (sym c.split_at.ensures.front) ∙ sym c.if-same.ensures)

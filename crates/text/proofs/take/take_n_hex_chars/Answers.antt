@@ -9,14 +9,14 @@ pub returns-then-s-n : goal.returns-then-s-n
 unfolding taken_hex
 returns-then-s-n c = too_short _ _ _ _ c.if-s-n.true
 
-pub returns-then-all-in : goal.returns-then-all-in
+pub returns-then-all_in : goal.returns-then-all_in
 unfolding taken_hex
-returns-then-all-in c =
+returns-then-all_in c =
     let s = c.args.s.now in
-    let parts = c.split-at.ensures in
+    let parts = c.split_at.ensures in
     (λ i. Some (parts.front i, parts.back i))
-    ∙ passed c.args.n (length s) (all hex (take c.args.n s)) (Some (take c.args.n s, drop c.args.n s)) (omega arith) (ap (all hex) (sym parts.front) ∙ sym c.if-all-in.ensures)
+    ∙ passed c.args.n (length s) (all hex (take c.args.n s)) (Some (take c.args.n s, drop c.args.n s)) (omega arith) (ap (all hex) (sym parts.front) ∙ sym c.if-all_in.ensures)
 
-pub returns-else-all-in : goal.returns-else-all-in
+pub returns-else-all_in : goal.returns-else-all_in
 unfolding taken_hex
-returns-else-all-in c = not-passed _ _ _ _ (ap (all hex) (sym c.split-at.ensures.front) ∙ sym c.if-all-in.ensures)
+returns-else-all_in c = not-passed _ _ _ _ (ap (all hex) (sym c.split_at.ensures.front) ∙ sym c.if-all_in.ensures)

@@ -5,4 +5,4 @@ use Rattle.text.proofs.trim.trim.Goals as goal
 
 pub returns : goal.returns
 unfolding trimmed
-returns c = c.trim-end.ensures ∙ ap (without_back blank) c.trim-start.ensures
+returns c = c.trim_end.ensures ∙ ap (without_back blank) c.trim_start.ensures

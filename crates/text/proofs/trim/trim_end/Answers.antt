@@ -6,5 +6,5 @@ use Rattle.text.proofs.trim.trim_end.Goals as goal
 pub returns : goal.returns
 unfolding without_back
 returns g c =
-    let e : c.kept-len-n.result - 0 ≡ length c.args.s.now - suffix_len g.S.ByteTest.holds c.args.s.now = omega arith in
+    let e : c.kept_len-n.result - 0 ≡ length c.args.s.now - suffix_len g.S.ByteTest.holds c.args.s.now = omega arith in
     ap (λ n. take n c.args.s.now) e

@@ -5,4 +5,4 @@ use Rattle.text.proofs.trim.trim_start.Goals as goal
 
 pub returns : goal.returns
 unfolding without_front
-returns g c = take_rest c.args.s.now c.front-len-n.result ∙ ap (λ n. drop n c.args.s.now) c.front-len-n.ensures.value
+returns g c = take_rest c.args.s.now c.front_len-n.result ∙ ap (λ n. drop n c.args.s.now) c.front_len-n.ensures.value
