@@ -4,17 +4,17 @@ use Rattle.byte_classes.specs.Sets.{digit, hex, any_hex}
 use Rattle.number.specs.Numbers.{digit_value}
 use Rattle.number.proofs.read.digit_value.Goals as goal
 
-pub overflow-sub-result : goal.overflow-sub-result
+pub overflow_sub-result : goal.overflow_sub-result
 unfolding digit
-overflow-sub-result c = grind (arith, nat_tests)
+overflow_sub-result c = grind (arith, nat_tests)
 
-pub overflow-sub-result-then-test-2 : goal.overflow-sub-result-then-test-2
+pub overflow_sub-result-then-test-2 : goal.overflow_sub-result-then-test-2
 unfolding digit hex
-overflow-sub-result-then-test-2 c = grind (arith, nat_tests)
+overflow_sub-result-then-test-2 c = grind (arith, nat_tests)
 
-pub overflow-sub-result-then-test-3 : goal.overflow-sub-result-then-test-3
+pub overflow_sub-result-then-test-3 : goal.overflow_sub-result-then-test-3
 unfolding digit hex any_hex
-overflow-sub-result-then-test-3 c = grind (arith, nat_tests)
+overflow_sub-result-then-test-3 c = grind (arith, nat_tests)
 
 pub returns-then-test : goal.returns-then-test
 unfolding digit_value

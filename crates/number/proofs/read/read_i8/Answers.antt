@@ -2,13 +2,13 @@ use Rattle.std.proofs.Common.{rules}
 use Rattle.number.specs.Numbers.{small}
 use Rattle.number.proofs.read.read_i8.Goals as goal
 
-pub returns-in-err-n : goal.returns-in-err-n
+pub returns-in_err-n : goal.returns-in_err-n
 unfolding small
-returns-in-err-n c = search rules
+returns-in_err-n c = search rules
 
-pub returns-in-err-n-2 : goal.returns-in-err-n-2
+pub returns-in_err-n-2 : goal.returns-in_err-n-2
 unfolding small
-returns-in-err-n-2 c = search rules
+returns-in_err-n-2 c = search rules
 
 pub returns-then-n-le128 : goal.returns-then-n-le128
 unfolding small

@@ -2,13 +2,13 @@ use Rattle.std.proofs.Common.{rules}
 use Rattle.number.specs.Numbers.{mechanism}
 use Rattle.number.proofs.read.read_mechanism.Goals as goal
 
-pub returns-in-err-after-minus : goal.returns-in-err-after-minus
+pub returns-in_err-after_minus : goal.returns-in_err-after_minus
 unfolding mechanism
-returns-in-err-after-minus c = search rules
+returns-in_err-after_minus c = search rules
 
-pub returns-in-err-n : goal.returns-in-err-n
+pub returns-in_err-n : goal.returns-in_err-n
 unfolding mechanism
-returns-in-err-n c = search rules
+returns-in_err-n c = search rules
 
 pub returns-then-n-le255 : goal.returns-then-n-le255
 unfolding mechanism

@@ -10,7 +10,7 @@ loop-piece-init c = ap (hear_on silence) (c.new-pieces.ensures ∙ ap (pieces 0x
 
 pub loop-piece-preserved : goal.loop-piece-preserved
 loop-piece-preserved c =
-    ap (λ h. hear_on h (left c.next.new.self)) c.hear-piece-dd.ensures
+    ap (λ h. hear_on h (left c.next.new.self)) c.hear_piece-dd.ensures
     ∙ next_heard (says c.loop-piece.dd) (left c.loop-piece.pieces) c.in-Some.piece.now (left c.next.new.self) c.in-Some.ensures.piece c.next.ensures.after
     ∙ c.loop-piece.invariant
 

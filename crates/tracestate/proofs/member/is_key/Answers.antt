@@ -2,13 +2,13 @@ use Rattle.std.proofs.Common.{rules}
 use Rattle.tracestate.specs.Members.{is_key}
 use Rattle.tracestate.proofs.member.is_key.Goals as goal
 
-pub returns-then-is-part : goal.returns-then-is-part
+pub returns-then-is_part : goal.returns-then-is_part
 unfolding is_key
-returns-then-is-part c = search rules
+returns-then-is_part c = search rules
 
-pub returns-else-is-part : goal.returns-else-is-part
+pub returns-else-is_part : goal.returns-else-is_part
 unfolding is_key
-returns-else-is-part c = search rules
+returns-else-is_part c = search rules
 
 pub returns-in-None : goal.returns-in-None
 unfolding is_key

@@ -2,14 +2,14 @@ use Rattle.std.proofs.Common.{rules}
 use Rattle.tracestate.specs.Members.{member_of}
 use Rattle.tracestate.proofs.member.split_member.Goals as goal
 
-pub returns-in-err-key : goal.returns-in-err-key
+pub returns-in_err-key : goal.returns-in_err-key
 unfolding member_of
-returns-in-err-key c = search rules
+returns-in_err-key c = search rules
 
-pub returns-then-is-value : goal.returns-then-is-value
+pub returns-then-is_value : goal.returns-then-is_value
 unfolding member_of
-returns-then-is-value c = search rules
+returns-then-is_value c = search rules
 
-pub returns-else-is-key : goal.returns-else-is-key
+pub returns-else-is_key : goal.returns-else-is_key
 unfolding member_of
-returns-else-is-key c = search rules
+returns-else-is_key c = search rules

@@ -9,14 +9,14 @@ use Rattle.tracestate.proofs.read.read_tracestate.Goals.{else-loop-n-test, then-
 pub loop-n-init : goal.loop-n-init
 loop-n-init c = ap (λ ps. read_on nothing (take 32 ps)) c.new-pieces.ensures ∙ reads_all c.args.s.now
 
-pub returns-in-err-found : goal.returns-in-err-found
-returns-in-err-found c =
+pub returns-in_err-found : goal.returns-in_err-found
+returns-in_err-found c =
     let found = shown c.loop-n.found in
     let ps = left c.loop-n.pieces in
     let rest = left c.next.new.self in
     let step = next_piece found ps c.loop-n.-n c.in-Some.piece.now rest (omega arith) c.in-Some.ensures.piece c.next.ensures.after in
     ap (option_map shown) c.from-residual.ensures
-    ∙ sym (sym c.loop-n.invariant ∙ step ∙ ap (λ o. bind o (λ g. read_on g (take (32 - (c.loop-n.-n + 1)) rest))) (sym c.in-err-found.ensures))
+    ∙ sym (sym c.loop-n.invariant ∙ step ∙ ap (λ o. bind o (λ g. read_on g (take (32 - (c.loop-n.-n + 1)) rest))) (sym c.in_err-found.ensures))
 
 pub loop-n-preserved : goal.loop-n-preserved
 loop-n-preserved c =
@@ -24,7 +24,7 @@ loop-n-preserved c =
     let ps = left c.loop-n.pieces in
     let rest = left c.next.new.self in
     let step = next_piece found ps c.loop-n.-n c.in-Some.piece.now rest (omega arith) c.in-Some.ensures.piece c.next.ensures.after in
-    sym (step ∙ ap (λ o. bind o (λ g. read_on g (take (32 - (c.loop-n.-n + 1)) rest))) (sym c.in-ok-found.ensures)) ∙ c.loop-n.invariant
+    sym (step ∙ ap (λ o. bind o (λ g. read_on g (take (32 - (c.loop-n.-n + 1)) rest))) (sym c.in_ok-found.ensures)) ∙ c.loop-n.invariant
 
 pub returns : goal.returns
 returns c =

@@ -8,7 +8,7 @@ loop-at-init c = (hex-start c.args.n c.args.out.now, omega arith)
 
 pub loop-at-preserved : goal.loop-at-preserved
 loop-at-preserved c = (
-  hex_more c.args.n c.loop-at.rest c.loop-at.at c.loop-at.out c.loop-at.invariant.1 c.loop-at.invariant.0 c.hex-digit.result c.loop-at-test.true c.hex-digit.ensures,
+  hex_more c.args.n c.loop-at.rest c.loop-at.at c.loop-at.out c.loop-at.invariant.1 c.loop-at.invariant.0 c.hex_digit.result c.loop-at-test.true c.hex_digit.ensures,
   simp length-set (omega arith),
 )
 

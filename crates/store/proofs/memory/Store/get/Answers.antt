@@ -3,13 +3,13 @@ use Rattle.store.proofs.Cuts.{within}
 use Rattle.store.proofs.Reading.{key-within, value-some}
 use Rattle.store.proofs.memory.Store.get.Goals as goal
 
-pub overflow-add-place : goal.overflow-add-place
-overflow-add-place c =
+pub overflow_add-place : goal.overflow_add-place
+overflow_add-place c =
     let w = within c.args.self.now c.args.key.now c.find-place.result c.find-place.ensures in
     omega (arith, key-within c.args.self.now c.args.key.now c.find-place.result c.find-place.ensures c.if-place-eq0.false)
 
-pub overflow-sub-place : goal.overflow-sub-place
-overflow-sub-place c = key-within c.args.self.now c.args.key.now c.find-place.result c.find-place.ensures c.if-place-eq0.false
+pub overflow_sub-place : goal.overflow_sub-place
+overflow_sub-place c = key-within c.args.self.now c.args.key.now c.find-place.result c.find-place.ensures c.if-place-eq0.false
 
 pub part-requires : goal.part-requires
 part-requires c =

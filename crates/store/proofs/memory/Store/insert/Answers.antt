@@ -12,17 +12,17 @@ use Rattle.store.proofs.Sounds.{sound-placed}
 use Rattle.store.proofs.memory.Store.insert.Goals as goal
 use Rattle.store.proofs.memory.Store.insert.Goals.{then-kept-len-via-then-kept-len, then-kept-len-via-else-kept-len+then-key-room, then-kept-len-via-else-kept-len+else-key-room+then-value-room}
 
-pub overflow-sub-left : goal.overflow-sub-left
-overflow-sub-left c = let w = within c.args.self.now c.args.key.now c.find-place.result c.find-place.ensures in omega arith
+pub overflow_sub-left : goal.overflow_sub-left
+overflow_sub-left c = let w = within c.args.self.now c.args.key.now c.find-place.result c.find-place.ensures in omega arith
 
-pub overflow-sub-kept : goal.overflow-sub-kept
-overflow-sub-kept c = let w = within c.args.self.now c.args.key.now c.find-place.result c.find-place.ensures in omega arith
+pub overflow_sub-kept : goal.overflow_sub-kept
+overflow_sub-kept c = let w = within c.args.self.now c.args.key.now c.find-place.result c.find-place.ensures in omega arith
 
 pub replace-requires : goal.replace-requires
 replace-requires c = let w = within c.args.self.now c.args.key.now c.find-place.result c.find-place.ensures in record { within = omega arith; inside = omega arith; room = omega arith }
 
-pub overflow-add-place : goal.overflow-add-place
-overflow-add-place c = let w = within c.args.self.now c.args.key.now c.find-place.result c.find-place.ensures in omega arith
+pub overflow_add-place : goal.overflow_add-place
+overflow_add-place c = let w = within c.args.self.now c.args.key.now c.find-place.result c.find-place.ensures in omega arith
 
 pub replace-requires-2 : goal.replace-requires-2
 replace-requires-2 c = let w = within c.args.self.now c.args.key.now c.find-place.result c.find-place.ensures in record { within = omega arith; inside = omega arith; room = omega arith }

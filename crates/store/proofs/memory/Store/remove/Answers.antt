@@ -14,11 +14,11 @@ replace-requires c = let w = within c.args.self.now c.args.key.now c.find-place.
 pub replace-requires-2 : goal.replace-requires-2
 replace-requires-2 c = let w = within c.args.self.now c.args.key.now c.find-place.result c.find-place.ensures in record { within = omega arith; inside = omega arith; room = omega arith }
 
-pub overflow-sub-self : goal.overflow-sub-self
-overflow-sub-self c = let w = within c.args.self.now c.args.key.now c.find-place.result c.find-place.ensures in omega arith
+pub overflow_sub-self : goal.overflow_sub-self
+overflow_sub-self c = let w = within c.args.self.now c.args.key.now c.find-place.result c.find-place.ensures in omega arith
 
-pub overflow-sub-self-2 : goal.overflow-sub-self-2
-overflow-sub-self-2 c = let w = within c.args.self.now c.args.key.now c.find-place.result c.find-place.ensures in omega arith
+pub overflow_sub-self-2 : goal.overflow_sub-self-2
+overflow_sub-self-2 c = let w = within c.args.self.now c.args.key.now c.find-place.result c.find-place.ensures in omega arith
 
 pub invariant-of-self : goal.invariant-of-self
 unfolding after_remove

@@ -2,17 +2,17 @@ use Rattle.std.proofs.Common.{arith}
 use Rattle.store.proofs.Seeking.{total_more, sought_none, seek_more, seek_found, seek_past, seek_end}
 use Rattle.store.proofs.memory.seek.seek.Goals as goal
 
-pub overflow-add-bytes : goal.overflow-add-bytes
-overflow-add-bytes c = omega (arith, total_more c.args.spans.now c.loop-index.index c.loop-index-test.true)
+pub overflow_add-bytes : goal.overflow_add-bytes
+overflow_add-bytes c = omega (arith, total_more c.args.spans.now c.loop-index.index c.loop-index-test.true)
 
-pub overflow-add-at : goal.overflow-add-at
-overflow-add-at c = omega (arith, total_more c.args.spans.now c.loop-index.index c.loop-index-test.true)
+pub overflow_add-at : goal.overflow_add-at
+overflow_add-at c = omega (arith, total_more c.args.spans.now c.loop-index.index c.loop-index-test.true)
 
-pub slice-bounds-compare-end : goal.slice-bounds-compare-end
-slice-bounds-compare-end c = omega (arith, total_more c.args.spans.now c.loop-index.index c.loop-index-test.true)
+pub slice_bounds-compare-end : goal.slice_bounds-compare-end
+slice_bounds-compare-end c = omega (arith, total_more c.args.spans.now c.loop-index.index c.loop-index-test.true)
 
-pub overflow-add-at-in-loop-index : goal.overflow-add-at-in-loop-index
-overflow-add-at-in-loop-index c = omega (arith, total_more c.args.spans.now c.loop-index.index c.loop-index-test.true)
+pub overflow_add-at-in-loop-index : goal.overflow_add-at-in-loop-index
+overflow_add-at-in-loop-index c = omega (arith, total_more c.args.spans.now c.loop-index.index c.loop-index-test.true)
 
 pub loop-index-init : goal.loop-index-init
 loop-index-init c = (omega (arith, c.requires.within), sought_none c.args.key.now _ c.args.from c.requires.ascends)
