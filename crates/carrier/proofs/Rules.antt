@@ -36,9 +36,9 @@ keeps_the_rules K = record {
   room_name = K.room_name;
   room_length = K.room_length;
   unset_shows = K.cut_shows;
-  unset_keeps = K.cut_Keeps;
+  unset_keeps = K.cut_keeps;
   shown_lawful = K.shown_lawful;
 } where
   kept : (h : K.Held) (n v m : List ℕ) → (m ≡ n → ⊥) → (t : Bool) → (may n v && K.room h n (length v)) ≡ t → K.shown (cond t (K.put h n v) h) m ≡ K.shown h m
-  kept h n v m ne true e = let parts = and_parts (may n v) _ e in K.put_Keeps h n v m (and_parts (is_name n) (lawful v) parts.0).1 parts.1 ne
+  kept h n v m ne true e = let parts = and_parts (may n v) _ e in K.put_keeps h n v m (and_parts (is_name n) (lawful v) parts.0).1 parts.1 ne
   kept h n v m ne false e = refl

@@ -21,11 +21,11 @@ module _ (K : Kind) (h : Under K.Held) (n m : List ℕ) (none : stripped h.front
   set_leaves v true e =
       let parts = and_parts (may n v) _ e in
       let inner = and_parts (joins h.front n) _ parts.1 in
-      K.put_Keeps h.below (h.front ++ n) v m (and_parts (is_name n) (lawful v) parts.0).1 inner.1 (not-joined h.front n m none)
+      K.put_keeps h.below (h.front ++ n) v m (and_parts (is_name n) (lawful v) parts.0).1 inner.1 (not-joined h.front n m none)
   set_leaves v false e = refl
 
   unset_leaves : (t : Bool) → K.shown (cond t (K.cut h.below (h.front ++ n)) h.below) m ≡ K.shown h.below m
-  unset_leaves true = K.cut_Keeps h.below (h.front ++ n) m (not-joined h.front n m none)
+  unset_leaves true = K.cut_keeps h.below (h.front ++ n) m (not-joined h.front n m none)
   unset_leaves false = refl
 
 pub leaves_others : (K : Kind) → LeavesOthers K

@@ -65,7 +65,7 @@ module _ (K : Kind) where
   cut-shown h n m = by (bytes_eq n m) refl where
     by : (b : Bool) → bytes_eq n m ≡ b → K.shown (K.cut h n) m ≡ cond b None (K.shown h m)
     by true is = ap (λ (x : List ℕ). K.shown (K.cut h x) m) ((bytes_eq-Decides n m).0 is) ∙ K.cut_shows h m
-    by false is = K.cut_Keeps h n m (not_same n m is)
+    by false is = K.cut_keeps h n m (not_same n m is)
 
   -- names that are unset
   pub unset-shown : (ns : List Header) (h : K.Held) (m : List ℕ) → K.shown (unset_all K ns h) m ≡ unset_in ns (K.shown h) m
