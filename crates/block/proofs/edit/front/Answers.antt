@@ -3,4 +3,4 @@ use Rattle.block.proofs.Bounds.{take-front}
 use Rattle.block.proofs.edit.front.Goals as goal
 
 pub returns : goal.returns
-returns c = take-front c.args.memory.now (min c.args.len 65536) c.front-len-end.result (omega arith)
+returns c = take-front c.args.memory.now (min c.args.len 65536) c.front_len-end.result (omega arith)

@@ -2,11 +2,11 @@ use Rattle.std.proofs.Common.{arith, rules}
 use Rattle.block.proofs.Sweeps.{sized_none, sized_step, sized_more, sized_all}
 use Rattle.block.proofs.edit.kept_len.Goals as goal
 
-pub overflow-add-size : goal.overflow-add-size
-overflow-add-size c = let h = sized_more c.args.name.now c.args.block.now c.loop-line.at c.loop-line.size _ _ c.loop-line.invariant c.in-Some.ensures in search rules
+pub overflow_add-size : goal.overflow_add-size
+overflow_add-size c = let h = sized_more c.args.name.now c.args.block.now c.loop-line.at c.loop-line.size _ _ c.loop-line.invariant c.in-Some.ensures in search rules
 
-pub overflow-add-at : goal.overflow-add-at
-overflow-add-at c = let h = sized_more c.args.name.now c.args.block.now c.loop-line.at c.loop-line.size _ _ c.loop-line.invariant c.in-Some.ensures in search rules
+pub overflow_add-at : goal.overflow_add-at
+overflow_add-at c = let h = sized_more c.args.name.now c.args.block.now c.loop-line.at c.loop-line.size _ _ c.loop-line.invariant c.in-Some.ensures in search rules
 
 pub loop-line-init : goal.loop-line-init
 loop-line-init c = sized_none c.args.name.now c.args.block.now

@@ -3,4 +3,4 @@ use Rattle.block.proofs.Writes.{removed}
 use Rattle.block.proofs.edit.remove.Goals as goal
 
 pub returns : goal.returns
-returns c = removed c.args.memory.now c.args.len c.args.name.now c.drop-lines.new.memory c.drop-lines.result (omega arith) c.drop-lines.ensures.text c.drop-lines.ensures.size
+returns c = removed c.args.memory.now c.args.len c.args.name.now c.drop_lines.new.memory c.drop_lines.result (omega arith) c.drop_lines.ensures.text c.drop_lines.ensures.size

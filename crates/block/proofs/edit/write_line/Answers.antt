@@ -10,7 +10,7 @@ parts front n v = simp append_assoc
 pub returns : goal.returns
 returns c =
     record {
-      text = c.write-at.ensures.text ∙ ap (λ s. s ++ (0x0D ∷ 0x0A ∷ [])) (c.write-at-at-3.ensures.text
-          ∙ ap (λ s. s ++ c.args.value.now) (c.write-at-at-2.ensures.text ∙ ap (λ s. s ++ (0x3A ∷ 0x20 ∷ [])) c.write-at-at.ensures.text)) ∙ parts _ c.args.name.now c.args.value.now;
+      text = c.write_at.ensures.text ∙ ap (λ s. s ++ (0x0D ∷ 0x0A ∷ [])) (c.write_at-at-3.ensures.text
+          ∙ ap (λ s. s ++ c.args.value.now) (c.write_at-at-2.ensures.text ∙ ap (λ s. s ++ (0x3A ∷ 0x20 ∷ [])) c.write_at-at.ensures.text)) ∙ parts _ c.args.name.now c.args.value.now;
       end = omega arith;
     }

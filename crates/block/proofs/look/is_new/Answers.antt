@@ -9,5 +9,5 @@ returns c =
     let block = c.args.block.now in
     let n = length block - c.args.left in
     let whole : n - 0 ≡ n = omega arith in
-    none_named c.is-none.result c.find.result (take (n - 0) block) c.args.name.now c.find.ensures c.is-none.ensures
+    none_named c.is_none.result c.find.result (take (n - 0) block) c.args.name.now c.find.ensures c.is_none.ensures
     ∙ ap (λ k. not (named c.args.name.now (lines_of (take k block)))) whole

@@ -10,8 +10,8 @@ loop-line-smaller c = left_shorter c.args.text.now c.loop-line.rest.now _ _ _ c.
 pub loop-line-preserved : goal.loop-line-preserved
 loop-line-preserved c = passed_on c.args.text.now c.loop-line.rest.now _ _ _ c.loop-line.invariant c.in-Some.ensures
 
-pub overflow-sub-result : goal.overflow-sub-result
-overflow-sub-result c = passed-within c.args.text.now c.loop-line.rest.now c.loop-line.invariant
+pub overflow_sub-result : goal.overflow_sub-result
+overflow_sub-result c = passed-within c.args.text.now c.loop-line.rest.now c.loop-line.invariant
 
 pub returns : goal.returns
 returns c = passed-all c.args.text.now c.loop-line.rest.now c.loop-line.invariant c.in-default.ensures

@@ -11,4 +11,4 @@ pub loop-byte-preserved : goal.loop-byte-preserved
 loop-byte-preserved c = sym (run_more c.loop-byte.state c.args.text.now c.loop-byte.byte-index _ (omega arith) c.in-Some.ensures) ∙ c.loop-byte.invariant
 
 pub returns : goal.returns
-returns c = c.is-start.ensures ∙ ap accepts (sym (at_drop_all (run c.loop-byte.state) c.args.text.now c.loop-byte.byte-index (omega arith)) ∙ c.loop-byte.invariant)
+returns c = c.is_start.ensures ∙ ap accepts (sym (at_drop_all (run c.loop-byte.state) c.args.text.now c.loop-byte.byte-index (omega arith)) ∙ c.loop-byte.invariant)

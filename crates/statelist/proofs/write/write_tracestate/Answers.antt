@@ -20,39 +20,39 @@ module _ (dd : List ℕ) (ot list : Option (List ℕ)) where
   after_ot : (work work' v : List ℕ) (len len' : ℕ) → Some v ≡ ot_to_add ot (carried_pieces list) → Wrote (codes "dd=" ++ dd) work (Some len) → Wrote (take len work ++ (codes ",ot=" ++ v)) work' (Some len') → Owed (written_list dd ot list) work' len' (followed (take 30 (others ot list)))
   after_ot work work' v len len' e w w' = owed_more (after-dd work len w) (codes ",ot=" ++ v) (followed (take 30 (others ot list))) work' len' (tail_with ot list v e) w'
 
-pub returns-in-err-len : goal.returns-in-err-len
-returns-in-err-len c =
+pub returns-in_err-len : goal.returns-in_err-len
+returns-in_err-len c =
     let ot = option_map (λ x. x.now) c.args.ot in
     let list = option_map (λ x. x.now) c.args.carried in
     let dd = c.args.dd.now in
-    let stop = owed_stops (before-dd dd ot list c.args.work.now) (codes "dd=" ++ dd) (tail ot list) c.put-member.new.work refl c.in-err-len.ensures in
+    let stop = owed_stops (before-dd dd ot list c.args.work.now) (codes "dd=" ++ dd) (tail ot list) c.put_member.new.work refl c.in_err-len.ensures in
     rw c.from-residual.ensures (answered (omega arith) stop)
 
-pub put-member-requires-in-Some : goal.put-member-requires-in-Some
-put-member-requires-in-Some c = (after-dd c.args.dd.now (option_map (λ x. x.now) c.args.ot) (option_map (λ x. x.now) c.args.carried) c.put-member.new.work c.in-ok-len.len c.in-ok-len.ensures).room
+pub put_member-requires-in-Some : goal.put_member-requires-in-Some
+put_member-requires-in-Some c = (after-dd c.args.dd.now (option_map (λ x. x.now) c.args.ot) (option_map (λ x. x.now) c.args.carried) c.put_member.new.work c.in_ok-len.len c.in_ok-len.ensures).room
 
-pub returns-in-err-len-2 : goal.returns-in-err-len-2
-returns-in-err-len-2 c =
+pub returns-in_err-len-2 : goal.returns-in_err-len-2
+returns-in_err-len-2 c =
     let ot = option_map (λ x. x.now) c.args.ot in
     let list = option_map (λ x. x.now) c.args.carried in
     let v = c.in-Some.value.now in
-    let owed = after-dd c.args.dd.now ot list c.put-member.new.work c.in-ok-len.len c.in-ok-len.ensures in
-    let stop = owed_stops owed (codes ",ot=" ++ v) (followed (take 30 (others ot list))) c.put-member-in-Some.new.work (tail_with ot list v c.in-Some.ensures) c.in-err-len-2.ensures in
-    rw c.from-residual-in-err-len-2.ensures (answered (omega arith) stop)
+    let owed = after-dd c.args.dd.now ot list c.put_member.new.work c.in_ok-len.len c.in_ok-len.ensures in
+    let stop = owed_stops owed (codes ",ot=" ++ v) (followed (take 30 (others ot list))) c.put_member-in-Some.new.work (tail_with ot list v c.in-Some.ensures) c.in_err-len-2.ensures in
+    rw c.from-residual-in_err-len-2.ensures (answered (omega arith) stop)
 
-pub put-carried-requires : goal.put-carried-requires
-put-carried-requires c =
-    (after_ot c.args.dd.now (option_map (λ x. x.now) c.args.ot) (option_map (λ x. x.now) c.args.carried) c.put-member.new.work c.put-member-in-Some.new.work c.in-Some.value.now c.in-ok-len.len c.in-ok-len-2.len c.in-Some.ensures c.in-ok-len.ensures c.in-ok-len-2.ensures).room
+pub put_carried-requires : goal.put_carried-requires
+put_carried-requires c =
+    (after_ot c.args.dd.now (option_map (λ x. x.now) c.args.ot) (option_map (λ x. x.now) c.args.carried) c.put_member.new.work c.put_member-in-Some.new.work c.in-Some.value.now c.in_ok-len.len c.in_ok-len-2.len c.in-Some.ensures c.in_ok-len.ensures c.in_ok-len-2.ensures).room
 
-pub put-carried-requires-in-None : goal.put-carried-requires-in-None
-put-carried-requires-in-None c = (after-dd c.args.dd.now (option_map (λ x. x.now) c.args.ot) (option_map (λ x. x.now) c.args.carried) c.put-member.new.work c.in-ok-len.len c.in-ok-len.ensures).room
+pub put_carried-requires-in-None : goal.put_carried-requires-in-None
+put_carried-requires-in-None c = (after-dd c.args.dd.now (option_map (λ x. x.now) c.args.ot) (option_map (λ x. x.now) c.args.carried) c.put_member.new.work c.in_ok-len.len c.in_ok-len.ensures).room
 
-pub returns-in-ok-len-2 : goal.returns-in-ok-len-2
-returns-in-ok-len-2 c =
-    let owed = after_ot c.args.dd.now (option_map (λ x. x.now) c.args.ot) (option_map (λ x. x.now) c.args.carried) c.put-member.new.work c.put-member-in-Some.new.work c.in-Some.value.now c.in-ok-len.len c.in-ok-len-2.len c.in-Some.ensures c.in-ok-len.ensures c.in-ok-len-2.ensures in
-    answered (omega arith) (owed_last owed c.put-carried.new.work c.put-carried.result c.put-carried.ensures)
+pub returns-in_ok-len-2 : goal.returns-in_ok-len-2
+returns-in_ok-len-2 c =
+    let owed = after_ot c.args.dd.now (option_map (λ x. x.now) c.args.ot) (option_map (λ x. x.now) c.args.carried) c.put_member.new.work c.put_member-in-Some.new.work c.in-Some.value.now c.in_ok-len.len c.in_ok-len-2.len c.in-Some.ensures c.in_ok-len.ensures c.in_ok-len-2.ensures in
+    answered (omega arith) (owed_last owed c.put_carried.new.work c.put_carried.result c.put_carried.ensures)
 
 pub returns-in-None : goal.returns-in-None
 returns-in-None c =
-    let owed = no_ot c.args.dd.now (option_map (λ x. x.now) c.args.ot) (option_map (λ x. x.now) c.args.carried) c.put-member.new.work c.in-ok-len.len c.in-None.ensures c.in-ok-len.ensures in
-    answered (omega arith) (owed_last owed c.put-carried-in-None.new.work c.put-carried-in-None.result c.put-carried-in-None.ensures)
+    let owed = no_ot c.args.dd.now (option_map (λ x. x.now) c.args.ot) (option_map (λ x. x.now) c.args.carried) c.put_member.new.work c.in_ok-len.len c.in-None.ensures c.in_ok-len.ensures in
+    answered (omega arith) (owed_last owed c.put_carried-in-None.new.work c.put_carried-in-None.result c.put_carried-in-None.ensures)

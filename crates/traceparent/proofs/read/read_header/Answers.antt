@@ -4,4 +4,4 @@ use Rattle.traceparent.proofs.read.read_header.Goals as goal
 
 pub returns : goal.returns
 unfolding header_traceparent
-returns c = c.extract-traceparent.ensures ∙ ap read_traceparent c.trim.ensures
+returns c = c.extract_traceparent.ensures ∙ ap read_traceparent c.trim.ensures

@@ -3,18 +3,18 @@ use Rattle.std.proofs.Common.{rules}
 use Rattle.context.specs.Contexts.{ot_of}
 use Rattle.context.proofs.span_context.SpanContext.ot.Goals as goal
 
-pub returns-in-err-carried : goal.returns-in-err-carried
+pub returns-in_err-carried : goal.returns-in_err-carried
 unfolding ot_of
-returns-in-err-carried c = search rules
+returns-in_err-carried c = search rules
 
-pub returns-in-err-read-tracestate : goal.returns-in-err-read-tracestate
+pub returns-in_err-read_tracestate : goal.returns-in_err-read_tracestate
 unfolding ot_of
-returns-in-err-read-tracestate c = search rules
+returns-in_err-read_tracestate c = search rules
 
 pub returns-in-Given : goal.returns-in-Given
 unfolding ot_of
 returns-in-Given c = search rules
 
-pub returns-in-ok-read-tracestate : goal.returns-in-ok-read-tracestate
+pub returns-in_ok-read_tracestate : goal.returns-in_ok-read_tracestate
 unfolding ot_of
-returns-in-ok-read-tracestate c = search rules
+returns-in_ok-read_tracestate c = search rules

@@ -12,4 +12,4 @@ pub returns : goal.returns
 unfolding is_prefix
 returns c =
     let good : is_prefix c.args.bytes.now ≡ true = grind (arith, nat_tests) in
-    rw good (ap (λ (p : List ℕ). Ok p) (copied_front c.args.bytes.now _ _ c.copy-from-slice.ensures.after))
+    rw good (ap (λ (p : List ℕ). Ok p) (copied_front c.args.bytes.now _ _ c.copy_from_slice.ensures.after))

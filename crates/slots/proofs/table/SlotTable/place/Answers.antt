@@ -6,4 +6,4 @@ pub returns-then-own-lt-SLOTS : goal.returns-then-own-lt-SLOTS
 returns-then-own-lt-SLOTS c = place-own c.args.self.now.slots c.args.name.now c.find-own.result c.find-own.ensures (omega arith)
 
 pub returns-else-own-lt-SLOTS : goal.returns-else-own-lt-SLOTS
-returns-else-own-lt-SLOTS c = place-free c.args.self.now.slots c.args.name.now c.find-own.result c.find-free.result c.find-own.ensures (omega arith) c.find-free.ensures
+returns-else-own-lt-SLOTS c = place-free c.args.self.now.slots c.args.name.now c.find-own.result c.find_free.result c.find-own.ensures (omega arith) c.find_free.ensures

@@ -1,13 +1,13 @@
 use Rattle.std.proofs.Common.{arith}
 use Rattle.slots.proofs.Listing.{lists, counted_free, counted_used, counted_all}
 use Rattle.slots.proofs.table.SlotTableExtractor.key_count.Goals as goal
-use Rattle.slots.proofs.table.SlotTableExtractor.key_count.Goals.{then-not-is-free, else-not-is-free}
+use Rattle.slots.proofs.table.SlotTableExtractor.key_count.Goals.{then-not-is_free, else-not-is_free}
 
 pub loop-i-preserved : goal.loop-i-preserved
 loop-i-preserved c =
-    elim c.if-not-is-free.branch [
-      | then-not-is-free w ↦ rw w.n-is (counted_used c.args.self.now.slots c.loop-i.i _ (omega arith) c.loop-i.n w.if-not-is-free.ensures c.loop-i.invariant)
-      | else-not-is-free w ↦ rw w.n-is (counted_free c.args.self.now.slots c.loop-i.i _ (omega arith) c.loop-i.n w.if-not-is-free.ensures c.loop-i.invariant)
+    elim c.if-not-is_free.branch [
+      | then-not-is_free w ↦ rw w.n-is (counted_used c.args.self.now.slots c.loop-i.i _ (omega arith) c.loop-i.n w.if-not-is_free.ensures c.loop-i.invariant)
+      | else-not-is_free w ↦ rw w.n-is (counted_free c.args.self.now.slots c.loop-i.i _ (omega arith) c.loop-i.n w.if-not-is_free.ensures c.loop-i.invariant)
     ]
 
 pub returns : goal.returns

@@ -19,13 +19,13 @@ fill-requires c =
     let v = length c.args.value.now in
     let room = slot_room ss c.args.name.now v c.in-Some.i c.in-Some.ensures in
     record {
-      names = sym c.if-not-is-name.ensures;
-      values = sym c.if-not-is-lawful.ensures;
+      names = sym c.if-not-is_name.ensures;
+      values = sym c.if-not-is_lawful.ensures;
       fits = (roomy (places_of ss) c.args.name.now v room).length;
     }
 
-pub invariant-of-self : goal.invariant-of-self
-invariant-of-self c =
+pub invariant_of-self : goal.invariant_of-self
+invariant_of-self c =
     let ss = c.args.self.now.slots in
     let n = c.args.name.now in
     let at = slot_place ss n (length c.args.value.now) c.in-Some.i c.in-Some.ensures in (
@@ -46,6 +46,6 @@ returns-in-Some c =
     let room = slot_room ss n (length c.args.value.now) c.in-Some.i c.in-Some.ensures in
     let at = slot_place ss n (length c.args.value.now) c.in-Some.i c.in-Some.ensures in
     record {
-      answer = taken-answer _ _ _ c.if-not-is-name.ensures c.if-not-is-lawful.ensures room;
-      after = taken-after _ _ _ _ _ _ c.if-not-is-name.ensures c.if-not-is-lawful.ensures room (stored ss n c.args.value.now c.in-Some.i _ at c.fill.ensures.place);
+      answer = taken-answer _ _ _ c.if-not-is_name.ensures c.if-not-is_lawful.ensures room;
+      after = taken-after _ _ _ _ _ _ c.if-not-is_name.ensures c.if-not-is_lawful.ensures room (stored ss n c.args.value.now c.in-Some.i _ at c.fill.ensures.place);
     }

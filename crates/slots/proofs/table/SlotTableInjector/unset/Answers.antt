@@ -2,8 +2,8 @@ use Rattle.std.proofs.Common.{◌∙◌, arith, length-set}
 use Rattle.slots.proofs.Keeping.{sound-set, freed, nothing_freed, once_after}
 use Rattle.slots.proofs.table.SlotTableInjector.unset.Goals as goal
 
-pub invariant-of-self : goal.invariant-of-self
-invariant-of-self c =
+pub invariant_of-self : goal.invariant_of-self
+invariant_of-self c =
     let ss = c.args.self.now.slots in (
       length-set ss _ _ ∙ c.args.self.now.sixteen,
       (

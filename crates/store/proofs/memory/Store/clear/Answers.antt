@@ -5,9 +5,9 @@ use Rattle.store.specs.Tags.{ascends, all_lawful}
 use Rattle.text.specs.Texts.{lawful}
 use Rattle.store.proofs.memory.Store.clear.Goals as goal
 
-pub invariant-of-self : goal.invariant-of-self
+pub invariant_of-self : goal.invariant_of-self
 unfolding sound ascends all_lawful lawful
-invariant-of-self c = (c.args.self.now.small, ((omega arith, omega arith, refl), (refl, tt)))
+invariant_of-self c = (c.args.self.now.small, ((omega arith, omega arith, refl), (refl, tt)))
 
 pub returns : goal.returns
 unfolding held

@@ -47,8 +47,8 @@ returns-then-kept-len c =
     let out = refused_full (lawful k && lawful v) (next s k p c.find-place.ensures v) (held s) (and_from (lawful k) (lawful v) c.requires.key c.requires.value) none in
     record { answer = out.answers; after = out.leaves }
 
-pub invariant-of-self : goal.invariant-of-self
-invariant-of-self c =
+pub invariant_of-self : goal.invariant_of-self
+invariant_of-self c =
     let s = c.args.self.now in
     let p = c.find-place.result in
     let w = within s c.args.key.now p c.find-place.ensures in

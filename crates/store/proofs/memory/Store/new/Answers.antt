@@ -6,9 +6,9 @@ use Rattle.store.specs.Stores.{held}
 use Rattle.store.specs.Tags.{ascends, all_lawful}
 use Rattle.store.proofs.memory.Store.new.Goals as goal
 
-pub invariant-of-result : goal.invariant-of-result
+pub invariant_of-result : goal.invariant_of-result
 unfolding sound ascends all_lawful lawful
-invariant-of-result c =
+invariant_of-result c =
     let spans = ap length c.truncate.ensures.items ∙ length-take 256 c.args.spans.items in
     let text = ap length c.truncate-2.ensures.items ∙ length-take 65536 c.args.text.items in
     ((omega (arith, spans), omega (arith, text)), ((omega arith, omega arith, refl), (refl, tt)))

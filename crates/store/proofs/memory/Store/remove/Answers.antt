@@ -20,9 +20,9 @@ overflow_sub-self c = let w = within c.args.self.now c.args.key.now c.find-place
 pub overflow_sub-self-2 : goal.overflow_sub-self-2
 overflow_sub-self-2 c = let w = within c.args.self.now c.args.key.now c.find-place.result c.find-place.ensures in omega arith
 
-pub invariant-of-self : goal.invariant-of-self
+pub invariant_of-self : goal.invariant_of-self
 unfolding after_remove
-invariant-of-self c =
+invariant_of-self c =
     let s = c.args.self.now in
     let w = within s c.args.key.now c.find-place.result c.find-place.ensures in
     let spans = same_length s.spans c.replace-2.new.v c.replace-2.ensures.len in

@@ -27,8 +27,8 @@ returns-then-new-len c =
     (origin-long s o _ c.bytes_of-new.ensures _ c.unwrap_or-old.ensures (omega (arith, s.text.ok.0))) in
     record { answer = out.answers; after = out.leaves }
 
-pub invariant-of-self : goal.invariant-of-self
-invariant-of-self c =
+pub invariant_of-self : goal.invariant_of-self
+invariant_of-self c =
     let s = c.args.self.now in
     let o = option_map (λ x. x.now) c.args.origin in
     let text = same_length s.text c.replace.new.v c.replace.ensures.len in
