@@ -12,4 +12,4 @@ loop-piece-preserved c =
     key_later c.args.key.now (left c.loop-piece.pieces) c.in-Some.piece.now (left c.next.new.self) c.in-Some.ensures.piece c.next.ensures.after c.if-has_key.ensures ∙ c.loop-piece.invariant
 
 pub returns : goal.returns
-returns c = key_nowhere c.args.key.now (left c.loop-piece.pieces) c.in-default.ensures.piece ∙ c.loop-piece.invariant
+returns c = key_nowhere c.args.key.now (left c.loop-piece.pieces) c.in_default.ensures.piece ∙ c.loop-piece.invariant

@@ -15,4 +15,4 @@ loop-piece-preserved c =
     ∙ c.loop-piece.invariant
 
 pub returns : goal.returns
-returns c = all-heard (says c.loop-piece.dd) (left c.loop-piece.pieces) c.in-default.ensures.piece ∙ c.loop-piece.invariant
+returns c = all-heard (says c.loop-piece.dd) (left c.loop-piece.pieces) c.in_default.ensures.piece ∙ c.loop-piece.invariant

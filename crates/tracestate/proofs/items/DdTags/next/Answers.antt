@@ -18,11 +18,11 @@ pub loop-piece-preserved : goal.loop-piece-preserved
 loop-piece-preserved c =
     let rest = left c.next.new.self in
     sym (tags_next (left c.loop-piece.self.pieces) c.in-Some.piece.now rest c.in-Some.ensures.piece c.next.ensures.after
-    ∙ ap (λ o. also o (tags (items_of rest))) (sym c.in-default-standing_tag.ensures))
+    ∙ ap (λ o. also o (tags (items_of rest))) (sym c.in_default-standing_tag.ensures))
     ∙ c.loop-piece.invariant
 
 pub returns : goal.returns
 returns c =
-    let end = tags_end (left c.loop-piece.self.pieces) (left c.next.new.self) c.in-default.ensures.piece c.next.ensures.after in
+    let end = tags_end (left c.loop-piece.self.pieces) (left c.next.new.self) c.in_default.ensures.piece c.next.ensures.after in
     let none : tags_left c.args.self.now ≡ [] = sym c.loop-piece.invariant ∙ end.0 in
     record { tag = sym (ap first none); after = end.1 ∙ sym (ap others none) }
