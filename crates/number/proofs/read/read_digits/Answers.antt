@@ -13,7 +13,7 @@ returns-then-not-test g c =
 pub returns-in_err-checked_mul : goal.returns-in_err-checked_mul
 returns-in_err-checked_mul g c =
     let large = c.in_err-checked_mul.ensures in
-    c.from-residual.ensures
+    c.from_residual.ensures
     ∙ numeral_over g.S.ByteTest.holds c.args.base c.loop-b.n c.loop-b.b-index c.args.s.now c.loop-b.invariant.0 (sym c.is_empty.ensures ∙ c.if-is_empty.false) (omega arith)
     (sym c.test.ensures ∙ c.if-not-test.false) (omega arith)
 
@@ -21,7 +21,7 @@ pub returns-in_err-n : goal.returns-in_err-n
 returns-in_err-n g c =
     let product = c.in_ok-checked_mul.ensures in
     let large = c.in_err-n.ensures in
-    c.from-residual-in_err-n.ensures
+    c.from_residual-in_err-n.ensures
     ∙ numeral_over g.S.ByteTest.holds c.args.base c.loop-b.n c.loop-b.b-index c.args.s.now c.loop-b.invariant.0 (sym c.is_empty.ensures ∙ c.if-is_empty.false) (omega arith)
     (sym c.test.ensures ∙ c.if-not-test.false) (omega (arith, c.from.ensures, c.digit_value.ensures))
 
