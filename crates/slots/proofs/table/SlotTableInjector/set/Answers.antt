@@ -10,8 +10,8 @@ use Rattle.slots.proofs.table.SlotTableInjector.set.Goals as goal
 pub bounds-self-i : goal.bounds-self-i
 bounds-self-i c = let h = slot_within c.args.self.now.slots c.args.name.now (length c.args.value.now) c.in-Some.i c.in-Some.ensures in omega arith
 
-pub offset-bounds-self-i : goal.offset-bounds-self-i
-offset-bounds-self-i c = let h = slot_within c.args.self.now.slots c.args.name.now (length c.args.value.now) c.in-Some.i c.in-Some.ensures in search rules
+pub offset_bounds-self-i : goal.offset_bounds-self-i
+offset_bounds-self-i c = let h = slot_within c.args.self.now.slots c.args.name.now (length c.args.value.now) c.in-Some.i c.in-Some.ensures in search rules
 
 pub fill-requires : goal.fill-requires
 fill-requires c =
@@ -28,16 +28,12 @@ pub invariant_of-self : goal.invariant_of-self
 invariant_of-self c =
     let ss = c.args.self.now.slots in
     let n = c.args.name.now in
-    let at = slot_place ss n (length c.args.value.now) c.in-Some.i c.in-Some.ensures in (
-      length-set ss _ _ ∙ c.args.self.now.sixteen,
-      (
-        sound-set ss c.in-Some.i _ c.args.self.now.lawful c.fill.ensures.sound,
-        (
-          ap (λ (ps : Places). distinct (names ps)) (stored ss n c.args.value.now c.in-Some.i _ at c.fill.ensures.place) ∙ once-put (places_of ss) n c.args.value.now c.args.self.now.once,
-          tt,
-        ),
-      ),
-    )
+    let at = slot_place ss n (length c.args.value.now) c.in-Some.i c.in-Some.ensures in
+    record {
+      sixteen = length-set ss _ _ ∙ c.args.self.now.sixteen;
+      lawful = sound-set ss c.in-Some.i _ c.args.self.now.lawful c.fill.ensures.sound;
+      once = ap (λ (ps : Places). distinct (names ps)) (stored ss n c.args.value.now c.in-Some.i _ at c.fill.ensures.place) ∙ once-put (places_of ss) n c.args.value.now c.args.self.now.once;
+    }
 
 pub returns-in-Some : goal.returns-in-Some
 returns-in-Some c =
