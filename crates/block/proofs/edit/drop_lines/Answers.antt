@@ -57,6 +57,6 @@ returns c =
     let end = c.front_len-end.result in
     let whole : end - 0 ≡ end = omega arith in
     let counted = ap (λ k. take k old) (sym whole) ∙ take-front old (min c.args.len 65536) end (omega arith) in
-    let text = swept_all c.args.name.now old new end c.loop-line.at c.loop-line.size c.loop-line.invariant c.in-default.ensures ∙ ap (kept_text c.args.name.now) counted in
+    let text = swept_all c.args.name.now old new end c.loop-line.at c.loop-line.size c.loop-line.invariant c.in_default.ensures ∙ ap (kept_text c.args.name.now) counted in
     let within : c.loop-line.size ≤ length new = omega (arith, c.loop-line.invariant.within, c.loop-line.invariant.less, c.loop-line.invariant.long) in
     record { text = text; size = sym (length-take-le c.loop-line.size new within) ∙ ap length text }

@@ -23,6 +23,6 @@ loop-line-preserved c = sized_more c.args.name.now c.args.block.now c.loop-line.
 pub returns : goal.returns
 returns c =
     record {
-      value = sized_all c.args.name.now c.args.block.now c.loop-line.at c.loop-line.size c.loop-line.invariant c.in-default.ensures;
+      value = sized_all c.args.name.now c.args.block.now c.loop-line.at c.loop-line.size c.loop-line.invariant c.in_default.ensures;
       bound = omega (arith, c.loop-line.invariant.within, c.loop-line.invariant.less);
     }

@@ -12,4 +12,4 @@ pub loop-line-preserved : goal.loop-line-preserved
 loop-line-preserved c = found_later c.loop-line.rest.now _ _ _ c.in-Some.ensures c.args.name.now c.if-same.ensures ∙ c.loop-line.invariant
 
 pub returns : goal.returns
-returns c = none_found c.loop-line.rest.now c.args.name.now c.in-default.ensures ∙ c.loop-line.invariant
+returns c = none_found c.loop-line.rest.now c.args.name.now c.in_default.ensures ∙ c.loop-line.invariant

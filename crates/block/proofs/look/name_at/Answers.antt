@@ -14,12 +14,12 @@ loop-line-smaller c = left_shorter c.args.block.now c.loop-line.rest.now _ _ _ c
 pub loop-line-preserved : goal.loop-line-preserved
 loop-line-preserved c =
     elim c.if-is_new.branch [
-      | then-is_new+else-before-eq0 w ↦ rw w.before_is (sought_new c.args.block.now c.loop-line.rest.now _ _ _ c.loop-line.before c.args.at c.loop-line.invariant c.in-Some.ensures w.if-is_new.ensures w.if-before-eq0.false)
-      | else-is_new w ↦ rw w.before_is (sought_old c.args.block.now c.loop-line.rest.now _ _ _ c.loop-line.before c.args.at c.loop-line.invariant c.in-Some.ensures w.if-is_new.ensures)
+      | then-is_new+else-before-eq0 w ↦ rw w.before-is (sought_new c.args.block.now c.loop-line.rest.now _ _ _ c.loop-line.before c.args.at c.loop-line.invariant c.in-Some.ensures w.if-is_new.ensures w.if-before-eq0.false)
+      | else-is_new w ↦ rw w.before-is (sought_old c.args.block.now c.loop-line.rest.now _ _ _ c.loop-line.before c.args.at c.loop-line.invariant c.in-Some.ensures w.if-is_new.ensures)
     ]
 
 pub loop-line-init : goal.loop-line-init
 loop-line-init c = sought_none c.args.block.now c.args.at
 
 pub returns : goal.returns
-returns c = sought_all c.args.block.now c.loop-line.rest.now c.loop-line.before c.args.at c.loop-line.invariant c.in-default.ensures
+returns c = sought_all c.args.block.now c.loop-line.rest.now c.loop-line.before c.args.at c.loop-line.invariant c.in_default.ensures

@@ -27,6 +27,6 @@ loop-line-init c = counted_none c.args.block.now
 
 pub returns : goal.returns
 returns c = record {
-  count = counted_all c.args.block.now c.loop-line.rest.now c.loop-line.count c.loop-line.invariant c.in-default.ensures;
+  count = counted_all c.args.block.now c.loop-line.rest.now c.loop-line.count c.loop-line.invariant c.in_default.ensures;
   lists = names-list (lines_of c.args.block.now) (lines-lawful c.args.block.now);
 }

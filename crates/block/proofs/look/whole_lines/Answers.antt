@@ -14,4 +14,4 @@ pub overflow_sub-result : goal.overflow_sub-result
 overflow_sub-result c = passed-within c.args.text.now c.loop-line.rest.now c.loop-line.invariant
 
 pub returns : goal.returns
-returns c = passed-all c.args.text.now c.loop-line.rest.now c.loop-line.invariant c.in-default.ensures
+returns c = passed-all c.args.text.now c.loop-line.rest.now c.loop-line.invariant c.in_default.ensures

@@ -14,4 +14,4 @@ loop-piece-preserved c =
     ∙ c.loop-piece.invariant
 
 pub returns : goal.returns
-returns c = carried_nowhere c.args.value.now (left c.loop-piece.pieces) c.in-default.ensures.piece ∙ c.loop-piece.invariant
+returns c = carried_nowhere c.args.value.now (left c.loop-piece.pieces) c.in_default.ensures.piece ∙ c.loop-piece.invariant

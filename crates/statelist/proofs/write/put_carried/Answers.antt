@@ -7,10 +7,10 @@ use Rattle.statelist.proofs.Places.{owed_all, owed_more, owed_stops, owed_none}
 use Rattle.statelist.proofs.write.put_carried.Goals as goal
 use Rattle.text.specs.Cursors.{left}
 
-pub returns-in-default : goal.returns-in-default
-returns-in-default c =
+pub returns-in_default : goal.returns-in_default
+returns-in_default c =
     let ot = option_map (λ x. x.now) c.args.ot in
-    let none = ap (λ o. followed (take (32 - c.args.members) (passed ot (carried_pieces (option_map (λ x. x.now) o))))) c.in-default.is ∙ no_list ot c.args.members in
+    let none = ap (λ o. followed (take (32 - c.args.members) (passed ot (carried_pieces (option_map (λ x. x.now) o))))) c.in_default.is ∙ no_list ot c.args.members in
     owed_none (owed_all c.args.work.now (followed (take (32 - c.args.members) (passed ot (carried_pieces (option_map (λ x. x.now) c.args.carried))))) c.args.at c.requires) none
 
 pub loop-count-init : goal.loop-count-init
@@ -47,5 +47,5 @@ loop-count-preserved c =
 pub returns-after-loop-count : goal.returns-after-loop-count
 returns-after-loop-count c = owed_none c.loop-count.invariant (enough (passed (option_map (λ x. x.now) c.args.ot) (left c.loop-count.pieces)) c.loop-count.count c.loop-count-test.false)
 
-pub returns-in-default-next : goal.returns-in-default-next
-returns-in-default-next c = owed_none c.loop-count.invariant (all_seen (option_map (λ x. x.now) c.args.ot) (left c.loop-count.pieces) c.loop-count.count c.in-default-next.ensures.piece)
+pub returns-in_default-next : goal.returns-in_default-next
+returns-in_default-next c = owed_none c.loop-count.invariant (all_seen (option_map (λ x. x.now) c.args.ot) (left c.loop-count.pieces) c.loop-count.count c.in_default-next.ensures.piece)
