@@ -32,11 +32,11 @@ module _ (s : Store) where
 -- the memory of a store again, from what lies in it
 abbrev pub Kept : List Span → List ℕ → ℕ → ℕ → Option ℕ → Option ℕ → Type 0
 Kept spans text count used origin ot =
-    Small spans text × (Laid spans text count used origin ot × ((sound (contents spans text count origin ot) ≡ true) × Unit {0}))
+    record { small : Small spans text; laid : Laid spans text count used origin ot; good : sound (contents spans text count origin ot) ≡ true }
 
 pub kept : {spans : List Span} {text : List ℕ} {count used : ℕ} {origin ot : Option ℕ} {c : Contents} → Lies spans text count used origin ot c → Sound c
     → Small spans text → count ≤ length spans → used ≤ length text → Kept spans text count used origin ot
-kept {c = c} lies good small a b = (small, (lies_laid lies a b, (ap sound (lies_back lies) ∙ sound_from c good, tt)))
+kept {c = c} lies good small a b = record { small = small; laid = lies_laid lies a b; good = ap sound (lies_back lies) ∙ sound_from c good }
 
 -- a `Vec` that keeps its length
 pub same_length : {X Z : Type 0} (v w : Vec X Z) → vec_len w ≡ vec_len v → length (vec_items w) ≡ length (vec_items v)

@@ -1,8 +1,9 @@
 -- Byte order is strict and total, and is what `cmp` answers. Assumes nothing.
 use Rattle.std.proofs.Common.{◌≡◌, ℕ, ◌<◌, Bool, true, false, ◌&&◌, eqb, ltb, ◌⊎◌, List, [], ◌∷◌, ◌++◌, Ordering, Less, Equal, Greater, sym, refl, ◌∙◌, subst, inl, inr, arith}
 use Rattle.std.proofs.lemmas.Bool.{false≢true, ltb-true, lt-ltb, eqb-true, eq-eqb, and_parts, and_from, or_cases, or_left, or_right, cases_order}
-use Rattle.std.specs.Cmp.Lexicographic.{Lex}
-use Rattle.std.specs.Ordering.{MatchOrdering}
+use Rattle.std.specs.Cmp.Lexicographic.{slice_cmp}
+use Rattle.std.specs.Ordering.{MatchOrdering, nat_cmp, ordering_then}
+use Rattle.std.proofs.lemmas.Cmp.{ranked}
 use Rattle.store.specs.Laws.{ByteOrder}
 use Rattle.store.specs.Tags.{before}
 
@@ -77,22 +78,21 @@ trichotomy (x ∷ xs) (y ∷ ys) = more x y xs ys (trichotomy xs ys) (cases_orde
 abbrev pub Compared : List ℕ → List ℕ → Ordering → Type 0
 Compared xs ys r = MatchOrdering r (before xs ys ≡ true) (xs ≡ ys) (before ys xs ≡ true)
 
-abbrev Byte : ℕ → ℕ → Ordering → Type 0
-Byte a b r = MatchOrdering r (a < b) (a ≡ b) (b < a)
-
 same_first : (x y : ℕ) (xs ys : List ℕ) (r : Ordering) → x ≡ y → Compared xs ys r → Compared (x ∷ xs) (y ∷ ys) r
 same_first x y xs ys Less e h = before_from x y xs ys (inr (e, h))
 same_first x y xs ys Equal e h = λ i. e i ∷ h i
 same_first x y xs ys Greater e h = before_from y x ys xs (inr (sym e, h))
 
-pub compared : (xs ys : List ℕ) (r : Ordering) → Lex Byte xs ys r → Compared xs ys r
+pub compared : (xs ys : List ℕ) (r : Ordering) → r ≡ slice_cmp nat_cmp xs ys → Compared xs ys r
 unfolding before
 compared [] [] r h = subst (Compared [] []) (sym h) refl
 compared [] (y ∷ ys) r h = subst (Compared [] (y ∷ ys)) (sym h) refl
 compared (x ∷ xs) [] r h = subst (Compared (x ∷ xs) []) (sym h) refl
-compared (x ∷ xs) (y ∷ ys) r (Less, p, q) = subst (Compared (x ∷ xs) (y ∷ ys)) (sym q) (before_from x y xs ys (inl p))
-compared (x ∷ xs) (y ∷ ys) r (Equal, p, q) = same_first x y xs ys r p (compared xs ys r q)
-compared (x ∷ xs) (y ∷ ys) r (Greater, p, q) = subst (Compared (x ∷ xs) (y ∷ ys)) (sym q) (before_from y x ys xs (inl p))
+compared (x ∷ xs) (y ∷ ys) r h = subst (Compared (x ∷ xs) (y ∷ ys)) (sym h) (by (nat_cmp x y) (ranked x y (nat_cmp x y) refl) (compared xs ys (slice_cmp nat_cmp xs ys) refl)) where
+  by : (o : Ordering) → MatchOrdering o (x < y) (x ≡ y) (y < x) → Compared xs ys (slice_cmp nat_cmp xs ys) → Compared (x ∷ xs) (y ∷ ys) (ordering_then o (slice_cmp nat_cmp xs ys))
+  by Less p q = before_from x y xs ys (inl p)
+  by Equal p q = same_first x y xs ys (slice_cmp nat_cmp xs ys) p q
+  by Greater p q = before_from y x ys xs (inl p)
 
 -- the order in the words of bytes
 pub first_byte : (p xs ys : List ℕ) (x y : ℕ) → x < y → before (p ++ x ∷ xs) (p ++ y ∷ ys) ≡ true

@@ -7,7 +7,7 @@ use Rattle.store.proofs.memory.Store.clear.Goals as goal
 
 pub invariant_of-self : goal.invariant_of-self
 unfolding sound ascends all_lawful lawful
-invariant_of-self c = (c.args.self.now.small, ((omega arith, omega arith, refl), (refl, tt)))
+invariant_of-self c = record { small = c.args.self.now.small; laid = (omega arith, omega arith, refl); good = refl }
 
 pub returns : goal.returns
 unfolding held

@@ -11,7 +11,7 @@ unfolding sound ascends all_lawful lawful
 invariant_of-result c =
     let spans = ap length c.truncate.ensures.items ∙ length-take 256 c.args.spans.items in
     let text = ap length c.truncate-2.ensures.items ∙ length-take 65536 c.args.text.items in
-    ((omega (arith, spans), omega (arith, text)), ((omega arith, omega arith, refl), (refl, tt)))
+    record { small = (omega (arith, spans), omega (arith, text)); laid = (omega arith, omega arith, refl); good = refl }
 
 pub returns : goal.returns
 unfolding held
