@@ -1,6 +1,6 @@
 -- What a queue pile holds. Assumes nothing.
 use Rattle.std.specs.Prelude.{◌≡◌, ℕ, List, codes}
-use Rattle.std.specs.Borrow.{Bor}
+use Rattle.std.specs.Borrow.{MutBor}
 use Rattle.block.specs.Kind.{blocks}
 use Rattle.block.specs.Openings as block
 use Rattle.block.specs.declared.writer.LineBlock.{LineBlock}
@@ -14,6 +14,6 @@ abbrev pub queue : Kind
 queue = layered (lent blocks)
 
 -- the layer has the prefix `job-`, and the block below is opened on the memory
-pub record Opened (m : Bor (List ℕ)) (len : ℕ) (side : Prefixed LineBlock) : Type 0 where
+pub record Opened (m : MutBor (List ℕ)) (len : ℕ) (side : Prefixed LineBlock) : Type 0 where
   pub prefix : front side.prefix ≡ codes "job-"
   pub below : block.Opened m len side.below
