@@ -1,5 +1,5 @@
 -- The mask of a byte, from the sets that it is in. Assumes nothing.
-use Rattle.std.specs.Prelude.{ℕ, ◌+◌, Bool, cond}
+use Rattle.std.specs.Prelude.{ℕ, Bool}
 use Rattle.byte_classes.specs.Sets.{text, blank, space, digit, hex, any_hex, name, letter_or_digit, tracestate_key, tracestate_value, tag_key_replaced, tag_value_replaced, datadog_key, datadog_value, equals, tilde}
 use Rattle.byte_classes.specs.declared.class.Class.{Class}
 use Rattle.byte_classes.specs.declared.class.Class.TheVariants.{Text, Blank, Space, Digit, Hex, AnyHex, Name, LetterOrDigit, TracestateKey, TracestateValue, TagKeyReplaced, TagValueReplaced, DatadogKey, DatadogValue, Equals, Tilde}

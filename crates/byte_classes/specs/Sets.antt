@@ -1,5 +1,5 @@
 -- The sets of bytes that the rules name. Assumes nothing.
-use Rattle.std.specs.Prelude.{ℕ, Bool, true, false, not, ◌&&◌, ◌||◌, List, [], ◌∷◌, codes, ◌==◌, nat_le}
+use Rattle.std.specs.Prelude.{ℕ, Bool, false, not, ◌&&◌, ◌||◌, List, [], ◌∷◌, codes, ◌==◌, nat_le}
 
 abbrev pub within : ℕ → ℕ → ℕ → Bool
 within first last b = nat_le first b && nat_le b last

@@ -1,5 +1,5 @@
 -- Every kind keeps the rules. Assumes nothing.
-use Rattle.std.proofs.Common.{◌≡◌, ℕ, Bool, true, false, cond, ◌&&◌, List, length, Ok, Err, Result, sym, refl, ap, ◌∙◌, arith}
+use Rattle.std.proofs.Common.{◌≡◌, ℕ, Bool, true, false, cond, ◌&&◌, List, length, Ok, Err, refl, arith}
 use Rattle.std.proofs.lemmas.Bool.{and_from, and_left, and_right, and_parts}
 use Rattle.text.specs.Texts.{lawful}
 use Rattle.carrier.specs.declared.faults.SetFault.{SetFault}
@@ -7,7 +7,7 @@ use Rattle.carrier.specs.declared.faults.SetFault.TheVariants.{Unlawful, Full}
 use Rattle.carrier.specs.Kinds.{Kind}
 use Rattle.carrier.specs.Laws.{KeepsTheRules}
 use Rattle.carrier.specs.Names.{is_name}
-use Rattle.carrier.specs.Steps.{may, verdict, set_answer, after_set}
+use Rattle.carrier.specs.Steps.{may, verdict}
 
 -- an accepted set was lawful and had room
 accepted : (a b : Bool) → verdict a b ≡ Ok tt → (a ≡ true) × (b ≡ true)

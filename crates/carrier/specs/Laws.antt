@@ -1,5 +1,5 @@
 -- The rules of carriers in the words of headers. Assumes nothing.
-use Rattle.std.specs.Prelude.{◌≡◌, ℕ, ◌≤◌, Bool, true, false, List, length, Some, None, Ok, Err, ◌≢◌}
+use Rattle.std.specs.Prelude.{◌≡◌, ℕ, ◌≤◌, true, false, List, length, Some, None, Ok, Err, ◌≢◌}
 use Rattle.text.specs.Texts.{lawful}
 use Rattle.carrier.specs.declared.faults.SetFault.TheVariants.{Unlawful, Full}
 use Rattle.carrier.specs.Kinds.{Kind, Lawful}

@@ -1,5 +1,5 @@
 -- Pieces and the text that they make up: there and back. Assumes nothing.
-use Rattle.std.proofs.Common.{◌≡◌, ℕ, Bool, true, false, cond, not, ◌&&◌, eqb, List, [], ◌∷◌, ◌++◌, sym, refl, ap, ◌∙◌, append-nil}
+use Rattle.std.proofs.Common.{◌≡◌, ℕ, Bool, true, false, cond, not, ◌&&◌, eqb, List, [], ◌∷◌, ◌++◌, sym, refl, ap, ◌∙◌}
 use Rattle.std.proofs.lemmas.Bool.{eqb-true, eq-eqb, and_parts, cond-true, cond-false, not-true}
 use Rattle.std.specs.List.{AllByRecursion as All}
 use Rattle.text.specs.Laws.{Lacks, joined_by, PiecesJoin, PiecesOnly}

@@ -1,11 +1,11 @@
 -- Blanks off both ends: there is one such text, and it is the trimmed one. Assumes nothing.
-use Rattle.std.proofs.Common.{◌≡◌, ℕ, ◌+◌, ◌-◌, ◌≤◌, Bool, true, false, cond, not, ◌&&◌, List, [], ◌∷◌, ◌++◌, reverse, length, take, drop, sym, refl, ap, ◌∙◌, append_assoc, append-nil, one-add, arith, length-append, length-drop}
+use Rattle.std.proofs.Common.{◌≡◌, ℕ, ◌+◌, ◌-◌, Bool, true, false, cond, not, ◌&&◌, List, [], ◌∷◌, ◌++◌, reverse, length, take, drop, sym, refl, ap, ◌∙◌, append-nil, one-add, arith, length-drop}
 use mathlib.Core.List.{reverse-append, reverse-reverse}
 use Rattle.std.proofs.lemmas.List.{take_at, drop_at, take-append-drop, length-reverse}
 use Rattle.std.proofs.lemmas.Bool.{and_parts, not-true, cond-true, cond-false}
-use Rattle.std.specs.List.{prefix_len, suffix_len}
+use Rattle.std.specs.List.{prefix_len}
 use Rattle.byte_classes.specs.Sets.{blank}
-use Rattle.text.specs.Laws.{bare, Trims, TrimIs, TrimOnly}
+use Rattle.text.specs.Laws.{bare, TrimIs, TrimOnly}
 use Rattle.text.specs.Texts.{all}
 use Rattle.text.specs.Trims.{without_front, without_back, trimmed}
 use Rattle.text.proofs.Alls.{all_append, all-reverse}

@@ -1,6 +1,6 @@
 -- What the parts of a text are, without saying how they are found: each relation has one solution, and the definitions give it.
 -- Assumes nothing.
-use Rattle.std.specs.Prelude.{◌≡◌, ℕ, Bool, true, false, not, List, [], ◌∷◌, ◌++◌, reverse, Some, None}
+use Rattle.std.specs.Prelude.{◌≡◌, ℕ, Bool, true, not, List, [], ◌∷◌, ◌++◌, reverse, Some, None}
 use Rattle.std.specs.List.{AllByRecursion as All}
 use Rattle.byte_classes.specs.Sets.{blank}
 use Rattle.text.specs.Splits.{other, split_once, pieces}

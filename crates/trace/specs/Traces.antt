@@ -1,5 +1,5 @@
 -- What identifies a trace, and how it was sampled. Assumes nothing.
-use Rattle.std.specs.Prelude.{ℕ, Bool, true, false, not, ◌&&◌, ℤ, pos, Some, None, Option, ◌==◌, int_lt}
+use Rattle.std.specs.Prelude.{ℕ, Bool, false, not, ◌&&◌, ℤ, pos, Some, None, Option, ◌==◌, int_lt}
 use Rattle.trace.specs.declared.ids.TraceId.{TraceId}
 use Rattle.trace.specs.declared.mechanism.SamplingMechanism.{SamplingMechanism}
 use Rattle.trace.specs.declared.priority.SamplingPriority.{SamplingPriority}

@@ -1,7 +1,6 @@
 -- How long a written traceparent and its parts are. Assumes nothing.
-use Rattle.std.proofs.Common.{◌≡◌, Bool, true, false, ◌++◌, length, codes, refl, arith, length-append}
+use Rattle.std.proofs.Common.{◌≡◌, Bool, true, false, length, refl, arith, length-append}
 use Rattle.number.proofs.HexText.{length-hex_text}
-use Rattle.number.specs.Numbers.{hex_text}
 use Rattle.traceparent.specs.Laws.{WrittenLength}
 use Rattle.traceparent.specs.Writes.{flags_text, traceparent_text}
 

@@ -1,8 +1,8 @@
 -- A written traceparent, read. Assumes nothing.
-use Rattle.std.proofs.Common.{◌≡◌, ℕ, ◌^◌, ◌<◌, ◌≤◌, Bool, true, false, cond, ◌&&◌, eqb, leb, List, [], ◌∷◌, ◌++◌, reverse, length, take, drop, pos, Some, None, Ok, codes, Option, Result, sym, refl, ap, ◌∙◌, append_assoc, arith, length-append}
+use Rattle.std.proofs.Common.{◌≡◌, ℕ, ◌^◌, ◌<◌, Bool, true, false, cond, List, [], ◌++◌, reverse, pos, Some, Ok, codes, Result, sym, refl, ap, ◌∙◌, append_assoc, arith}
 use mathlib.Core.List.{reverse-append}
-use Rattle.std.proofs.lemmas.List.{take_at, drop_at, append-nil}
-use Rattle.std.proofs.lemmas.Bool.{and_from, cond-true, le-leb, ne_eqb}
+use Rattle.std.proofs.lemmas.List.{append-nil}
+use Rattle.std.proofs.lemmas.Bool.{ne_eqb}
 use Rattle.byte_classes.specs.Sets.{blank, digit, hex}
 use Rattle.number.proofs.HexText.{length-hex_text, hex_form}
 use Rattle.number.proofs.ReadBack.{hexes_read_back}
@@ -10,11 +10,10 @@ use Rattle.number.specs.Numbers.{digit_value, numeral, hex_number, hex_text}
 use Rattle.text.proofs.Trimming.{trim_only}
 use Rattle.text.specs.Laws.{Trims, bare}
 use Rattle.text.specs.Takes.{taken_hex}
-use Rattle.text.specs.Texts.{all}
 use Rattle.text.specs.Trims.{trimmed}
 use Rattle.trace.specs.Traces.{is_zero, keeps}
 use Rattle.trace.specs.declared.ids.TraceId.{TraceId}
-use Rattle.traceparent.specs.Laws.{ReadsAs, WrittenReadsBack}
+use Rattle.traceparent.specs.Laws.{WrittenReadsBack}
 use Rattle.traceparent.proofs.Shapes.{taken_hex_lem}
 use Rattle.traceparent.specs.Reads.{header_traceparent, read_traceparent, sampled}
 use Rattle.traceparent.specs.Writes.{flags_text, traceparent_text}

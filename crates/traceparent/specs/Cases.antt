@@ -1,5 +1,5 @@
 -- The examples of docs/HEADERS.md on traceparent, of the definitions. Assumes nothing.
-use Rattle.std.specs.Prelude.{◌≡◌, ℕ, true, List, ℤ, pos, Ok, Err, codes, Result}
+use Rattle.std.specs.Prelude.{◌≡◌, true, ℤ, pos, Ok, Err, codes, Result}
 use Rattle.traceparent.specs.Reads.{read_traceparent}
 use Rattle.traceparent.specs.Writes.{traceparent_text}
 use Rattle.traceparent.specs.declared.read.Traceparent.{Traceparent}

@@ -1,5 +1,5 @@
 -- Items heard one after the other, and what they say together. Assumes nothing.
-use Rattle.std.proofs.Common.{◌≡◌, ℕ, List, [], ◌∷◌, Some, None, Option, sym, refl, ap, ◌∙◌, arith}
+use Rattle.std.proofs.Common.{◌≡◌, ℕ, List, [], ◌∷◌, Some, None, Option, refl, ◌∙◌, arith}
 use Rattle.std.specs.Option.{option_map}
 use Rattle.text.specs.Cursors.{first_of, others_of}
 use Rattle.text.specs.Splits.{pieces}

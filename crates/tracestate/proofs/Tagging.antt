@@ -1,8 +1,7 @@
 -- Keys sought and tags given among the items that are left. Assumes nothing.
 use Rattle.std.proofs.Common.{◌≡◌, ℕ, Bool, true, false, cond, ◌||◌, List, [], ◌∷◌, Some, None, Option, sym, refl, ap, ◌∙◌, arith}
-use Rattle.std.specs.Str.{bytes_eq}
 use Rattle.text.specs.Cursors.{first_of, others_of}
-use Rattle.tracestate.specs.Items.{item_of, also, items_of, has_key, key_in, standing, tag_of, tags_of, tags, standing_tag, first, others}
+use Rattle.tracestate.specs.Items.{item_of, also, items_of, has_key, key_in, standing, tag_of, tags_of, tags, standing_tag}
 use Rattle.tracestate.specs.Members.{Pair}
 
 module _ (key : List ℕ) where

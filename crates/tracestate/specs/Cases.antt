@@ -1,8 +1,8 @@
 -- The examples of docs/HEADERS.md on tracestate lists, of the definitions. Assumes nothing.
-use Rattle.std.specs.Prelude.{◌≡◌, ℕ, List, [], ◌∷◌, Some, None, codes}
+use Rattle.std.specs.Prelude.{◌≡◌, [], ◌∷◌, Some, None, codes}
 use Rattle.tracestate.specs.Items.{heard, items, tags}
 use Rattle.tracestate.specs.Lists.{tracestate, read_tracestate}
-use Rattle.tracestate.specs.Members.{Pair, pair}
+use Rattle.tracestate.specs.Members.{pair}
 
 pub record Cases : Type 0 where
   -- empty pieces and blanks

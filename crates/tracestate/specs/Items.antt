@@ -1,12 +1,11 @@
 -- The items of a dd value. Assumes nothing.
-use Rattle.std.specs.Prelude.{ℕ, Bool, true, false, cond, ◌||◌, List, [], ◌∷◌, is_some, Some, None, codes, Option, ◌==◌}
+use Rattle.std.specs.Prelude.{ℕ, Bool, false, cond, ◌||◌, List, [], ◌∷◌, is_some, Some, None, codes, Option, ◌==◌}
 use Rattle.std.specs.Option.{option_map}
 use Rattle.std.specs.Str.{bytes_eq}
 use Rattle.text.specs.Cursors.{left}
 use Rattle.text.specs.Splits.{split_once, pieces}
 use Rattle.text.specs.Takes.{stripped}
 use Rattle.text.specs.Trims.{trimmed}
-use Rattle.text.specs.declared.pieces.Pieces.{Pieces}
 use Rattle.tracestate.specs.Members.{Pair, pair, newer}
 use Rattle.tracestate.specs.declared.items.Dd.{Dd}
 use Rattle.tracestate.specs.declared.items.DdItem.{DdItem}

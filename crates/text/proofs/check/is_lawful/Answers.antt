@@ -1,4 +1,4 @@
-use Rattle.std.proofs.Common.{◌&&◌, leb, length, sym, ap, ◌∙◌}
+use Rattle.std.proofs.Common.{◌&&◌, length, sym, ap, ◌∙◌}
 use Rattle.std.proofs.lemmas.Bool.{le-leb, lt-leb, and_left}
 use Rattle.byte_classes.specs.Sets.{text}
 use Rattle.text.specs.Texts.{all, lawful}

@@ -1,4 +1,4 @@
-use Rattle.std.proofs.Common.{◌≡◌, length, take, drop, Some, sym, ap, ◌∙◌, arith}
+use Rattle.std.proofs.Common.{length, take, drop, Some, sym, ap, ◌∙◌, arith}
 use Rattle.byte_classes.specs.Sets.{hex}
 use Rattle.text.specs.Texts.{all}
 use Rattle.text.specs.Takes.{taken_hex}

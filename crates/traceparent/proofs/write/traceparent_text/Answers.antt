@@ -1,4 +1,4 @@
-use Rattle.std.proofs.Common.{◌≡◌, Bool, true, false, List, [], ◌∷◌, ◌++◌, length, replicate, codes, sym, refl, ap, ◌∙◌, append_assoc, arith, length-append}
+use Rattle.std.proofs.Common.{◌++◌, replicate, codes, refl, ◌∙◌, append_assoc, arith, length-append}
 use Rattle.number.proofs.HexText.{length-hex_text}
 use Rattle.number.specs.Numbers.{hex_text}
 use Rattle.text.proofs.Appends.{filled_none, filled-by, filled-all}

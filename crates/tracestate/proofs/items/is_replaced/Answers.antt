@@ -1,4 +1,4 @@
-use Rattle.std.proofs.Common.{◌≡◌, sym, ◌∙◌}
+use Rattle.std.proofs.Common.{◌∙◌}
 use Rattle.text.specs.Cursors.{left}
 use Rattle.tracestate.proofs.Tagging.{key_here, key_later, key_nowhere}
 use Rattle.tracestate.proofs.items.is_replaced.Goals as goal

@@ -1,4 +1,4 @@
-use Rattle.std.proofs.Common.{◌≡◌, sym, ap, ◌∙◌}
+use Rattle.std.proofs.Common.{ap, ◌∙◌}
 use Rattle.text.specs.Cursors.{left}
 use Rattle.text.specs.Splits.{pieces}
 use Rattle.tracestate.specs.Items.{says}

@@ -1,6 +1,6 @@
 use Rattle.std.proofs.Common.{◌≡◌, [], ◌∷◌, sym, ap, ◌∙◌}
 use Rattle.text.specs.Cursors.{left}
-use Rattle.tracestate.specs.Items.{also, item_of, items_of, standing_tag, tags, tags_left, first, others}
+use Rattle.tracestate.specs.Items.{also, items_of, tags, tags_left, first, others}
 use Rattle.tracestate.specs.Members.{said}
 use Rattle.tracestate.proofs.Tagging.{tags_next, tags_end}
 use Rattle.tracestate.proofs.items.DdTags.next.Goals as goal
