@@ -28,7 +28,7 @@ returns-in_err-len c =
     let text = c.trim-text.result.now in
     let rest = left c.next.new.self in
     let more = one_more ot (left c.loop-count.pieces) c.in-Some-next.piece.now text rest c.loop-count.count c.loop-count-test.true c.in-Some-next.ensures.piece c.next.ensures.after c.trim-text.ensures c.if-is_passed.ensures in
-    rw c.from-residual.ensures (owed_stops c.loop-count.invariant (0x2C ∷ text) (followed (take (32 - (c.loop-count.count + 1)) (passed ot rest))) c.put_member.new.work more c.in_err-len.ensures)
+    rw c.from_residual.ensures (owed_stops c.loop-count.invariant (0x2C ∷ text) (followed (take (32 - (c.loop-count.count + 1)) (passed ot rest))) c.put_member.new.work more c.in_err-len.ensures)
 
 pub loop-count-preserved-then-is_passed : goal.loop-count-preserved-then-is_passed
 loop-count-preserved-then-is_passed c =

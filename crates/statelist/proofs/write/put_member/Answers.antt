@@ -6,7 +6,7 @@ pub returns-in_err-at : goal.returns-in_err-at
 returns-in_err-at c =
     let lead = c.args.lead.now in
     let text = c.args.text.now in
-    rw c.from-residual.ensures (owed_stops (owed_all c.args.work.now (lead ++ text) c.args.at c.requires) lead text c.put.new.work refl c.in_err-at.ensures)
+    rw c.from_residual.ensures (owed_stops (owed_all c.args.work.now (lead ++ text) c.args.at c.requires) lead text c.put.new.work refl c.in_err-at.ensures)
 
 pub put-requires-2 : goal.put-requires-2
 put-requires-2 c =

@@ -26,30 +26,30 @@ returns-in_err-len c =
     let list = option_map (λ x. x.now) c.args.carried in
     let dd = c.args.dd.now in
     let stop = owed_stops (before-dd dd ot list c.args.work.now) (codes "dd=" ++ dd) (tail ot list) c.put_member.new.work refl c.in_err-len.ensures in
-    rw c.from-residual.ensures (answered (omega arith) stop)
+    rw c.from_residual.ensures (answered (omega arith) stop)
 
 pub put_member-requires-in-Some : goal.put_member-requires-in-Some
 put_member-requires-in-Some c = (after-dd c.args.dd.now (option_map (λ x. x.now) c.args.ot) (option_map (λ x. x.now) c.args.carried) c.put_member.new.work c.in_ok-len.len c.in_ok-len.ensures).room
 
-pub returns-in_err-len-2 : goal.returns-in_err-len-2
-returns-in_err-len-2 c =
+pub returns-in_err-len-in-Some : goal.returns-in_err-len-in-Some
+returns-in_err-len-in-Some c =
     let ot = option_map (λ x. x.now) c.args.ot in
     let list = option_map (λ x. x.now) c.args.carried in
     let v = c.in-Some.value.now in
     let owed = after-dd c.args.dd.now ot list c.put_member.new.work c.in_ok-len.len c.in_ok-len.ensures in
-    let stop = owed_stops owed (codes ",ot=" ++ v) (followed (take 30 (others ot list))) c.put_member-in-Some.new.work (tail_with ot list v c.in-Some.ensures) c.in_err-len-2.ensures in
-    rw c.from-residual-in_err-len-2.ensures (answered (omega arith) stop)
+    let stop = owed_stops owed (codes ",ot=" ++ v) (followed (take 30 (others ot list))) c.put_member-in-Some.new.work (tail_with ot list v c.in-Some.ensures) c.in_err-len-in-Some.ensures in
+    rw c.from_residual-in_err-len-in-Some.ensures (answered (omega arith) stop)
 
 pub put_carried-requires : goal.put_carried-requires
 put_carried-requires c =
-    (after_ot c.args.dd.now (option_map (λ x. x.now) c.args.ot) (option_map (λ x. x.now) c.args.carried) c.put_member.new.work c.put_member-in-Some.new.work c.in-Some.value.now c.in_ok-len.len c.in_ok-len-2.len c.in-Some.ensures c.in_ok-len.ensures c.in_ok-len-2.ensures).room
+    (after_ot c.args.dd.now (option_map (λ x. x.now) c.args.ot) (option_map (λ x. x.now) c.args.carried) c.put_member.new.work c.put_member-in-Some.new.work c.in-Some.value.now c.in_ok-len.len c.in_ok-len-in-Some.len c.in-Some.ensures c.in_ok-len.ensures c.in_ok-len-in-Some.ensures).room
 
 pub put_carried-requires-in-None : goal.put_carried-requires-in-None
 put_carried-requires-in-None c = (after-dd c.args.dd.now (option_map (λ x. x.now) c.args.ot) (option_map (λ x. x.now) c.args.carried) c.put_member.new.work c.in_ok-len.len c.in_ok-len.ensures).room
 
-pub returns-in_ok-len-2 : goal.returns-in_ok-len-2
-returns-in_ok-len-2 c =
-    let owed = after_ot c.args.dd.now (option_map (λ x. x.now) c.args.ot) (option_map (λ x. x.now) c.args.carried) c.put_member.new.work c.put_member-in-Some.new.work c.in-Some.value.now c.in_ok-len.len c.in_ok-len-2.len c.in-Some.ensures c.in_ok-len.ensures c.in_ok-len-2.ensures in
+pub returns-in_ok-len-in-Some : goal.returns-in_ok-len-in-Some
+returns-in_ok-len-in-Some c =
+    let owed = after_ot c.args.dd.now (option_map (λ x. x.now) c.args.ot) (option_map (λ x. x.now) c.args.carried) c.put_member.new.work c.put_member-in-Some.new.work c.in-Some.value.now c.in_ok-len.len c.in_ok-len-in-Some.len c.in-Some.ensures c.in_ok-len.ensures c.in_ok-len-in-Some.ensures in
     answered (omega arith) (owed_last owed c.put_carried.new.work c.put_carried.result c.put_carried.ensures)
 
 pub returns-in-None : goal.returns-in-None
