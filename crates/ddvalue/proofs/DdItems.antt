@@ -2,7 +2,7 @@
 use Rattle.std.proofs.Common.{◌≡◌, ℕ, ◌+◌, ◌-◌, ◌<◌, ◌≤◌, Bool, true, false, cond, ltb, leb, List, [], ◌∷◌, ◌++◌, map, length, ℤ, pos, Some, None, codes, Option, unwrap_or, sym, refl, ap, ◌∙◌, append_assoc, append-nil, arith, length-append}
 use Rattle.std.proofs.ByRecursion.{All-append}
 use Rattle.std.proofs.lemmas.Bool.{ltb-true}
-use Rattle.std.specs.List.{AllByRecursion as All}
+use Rattle.std.specs.List.{AllByRecursion}
 use Rattle.byte_classes.specs.Sets.{hex, blank, tag_key_replaced}
 use Rattle.text.proofs.Alls.{All-append as bytes-append}
 use Rattle.text.specs.Texts.{all}
@@ -61,16 +61,16 @@ tags-trail text ts =
 good_one : (key v : List ℕ) → all clean_key key ≡ true → Clean v → Good (item key v)
 good_one key v k c = record { key = k; value = c }
 
-good_if : (t : Bool) (key v : List ℕ) → all clean_key key ≡ true → Clean v → All Good (item_if key (cond t (Some v) None))
+good_if : (t : Bool) (key v : List ℕ) → all clean_key key ≡ true → Clean v → AllByRecursion Good (item_if key (cond t (Some v) None))
 good_if true key v k c = (good_one key v k c, tt)
 good_if false key v k c = tt
 
-good_origin : (text : List ℕ) (o : Option (List ℕ)) → All Good (item_if (codes "o") (origin_said text o))
+good_origin : (text : List ℕ) (o : Option (List ℕ)) → AllByRecursion Good (item_if (codes "o") (origin_said text o))
 unfolding tag_key_replaced
 good_origin text None = tt
 good_origin text (Some o) = good_if (there text (codes ";o:" ++ written_value o)) (codes "o") (written_value o) refl (clean_value_lem o)
 
-good_parent : (text d : List ℕ) → all hex d ≡ true → All Good (item_if (codes "p") (parent_said text d))
+good_parent : (text d : List ℕ) → all hex d ≡ true → AllByRecursion Good (item_if (codes "p") (parent_said text d))
 unfolding tag_key_replaced
 good_parent text d h = good_if (there text (codes ";p:" ++ d)) (codes "p") d refl (clean_digits d h)
 
@@ -78,11 +78,11 @@ good_tag : (t : Tag) → Good (tag_item (written t))
 unfolding tag_key_replaced
 good_tag t = good_one (codes "t." ++ written_key t.0) (written_value t.1) (bytes-append clean_key (codes "t.") (written_key t.0) refl (clean_key_lem t.0)) (clean_value_lem t.1)
 
-good_written : (ts : List Tag) → All Good (map tag_item (map written ts))
+good_written : (ts : List Tag) → AllByRecursion Good (map tag_item (map written ts))
 good_written [] = tt
 good_written (t ∷ ts) = (good_tag t, good_written ts)
 
-good_by : (b : Bool) (ts : List Tag) → All Good (map tag_item (cond b (map written ts) []))
+good_by : (b : Bool) (ts : List Tag) → AllByRecursion Good (map tag_item (cond b (map written ts) []))
 good_by true ts = good_written ts
 good_by false ts = tt
 
@@ -115,7 +115,7 @@ module _ (p : Option ℤ) (o : Option (List ℕ)) (d : List ℕ) (ts : List Tag)
       ∙ ap (λ l. s ++ l) (sym (trail_append a (b ++ c)))
 
   module _ (h : priority_fits p ≡ true) (k : all hex d ≡ true) where
-    pub all_good : All Good (first-item ∷ other_items)
+    pub all_good : AllByRecursion Good (first-item ∷ other_items)
     all_good = (
       good_said (unwrap_or p (pos 2)) (said_fits p h),
       All-append Good (item_if (codes "o") (origin_said (s_part p) o)) _ (good_origin (s_part p) o)

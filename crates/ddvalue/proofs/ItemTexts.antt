@@ -4,7 +4,7 @@ use mathlib.Core.List.{reverse-append}
 use Rattle.std.proofs.lemmas.List.{get_or-reverse}
 use Rattle.std.proofs.lemmas.Bool.{and_parts, and_from}
 use Rattle.std.proofs.lemmas.Bool.Decides.{nat_tests}
-use Rattle.std.specs.List.{AllByRecursion as All}
+use Rattle.std.specs.List.{AllByRecursion}
 use Rattle.std.specs.Option.{option_map}
 use Rattle.byte_classes.specs.Sets.{blank, space, tracestate_value}
 use Rattle.text.proofs.Alls.{all_append, all-reverse}
@@ -57,20 +57,20 @@ item-lawful : (p : Pair) → Good p → all tracestate_value (item_text p) ≡ t
 unfolding tracestate_value
 item-lawful = item-all tracestate_value key-lawful value-lawful refl
 
-pub trail-lawful : (ps : List Pair) → All Good ps → all tracestate_value (trail ps) ≡ true
+pub trail-lawful : (ps : List Pair) → AllByRecursion Good ps → all tracestate_value (trail ps) ≡ true
 unfolding tracestate_value
 trail-lawful [] g = refl
 trail-lawful (p ∷ ps) g = all_append tracestate_value (item_text p) (trail ps) (item-lawful p g.0) (trail-lawful ps g.1)
 
 -- the pieces, and the items that they are
-pieces-trail : (s : List ℕ) (ps : List Pair) → Lacks 0x3B s → All Good ps → pieces 0x3B (s ++ trail ps) ≡ s ∷ map item_text ps
+pieces-trail : (s : List ℕ) (ps : List Pair) → Lacks 0x3B s → AllByRecursion Good ps → pieces 0x3B (s ++ trail ps) ≡ s ∷ map item_text ps
 pieces-trail s [] l g = ap (pieces 0x3B) (append-nil s) ∙ pieces_one 0x3B s l
 pieces-trail s (p ∷ ps) l g = pieces-front 0x3B s (item_text p ++ trail ps) l ∙ ap (λ qs. s ∷ qs) (pieces-trail (item_text p) ps (lacks_semicolon p g.0) g.1)
 
 item_of_lem : (p : Pair) → Good p → item_of (item_text p) ≡ Some p
 item_of_lem p g = ap (option_map pair) (split_found 0x3A p.key p.value (all_weaker clean_key (other 0x3A) key_colon p.key g.key))
 
-items_of_lem : (ps : List Pair) → All Good ps → items_of (map item_text ps) ≡ ps
+items_of_lem : (ps : List Pair) → AllByRecursion Good ps → items_of (map item_text ps) ≡ ps
 items_of_lem [] g = refl
 items_of_lem (p ∷ ps) g = λ i. also (item_of_lem p g.0 i) (items_of_lem ps g.1 i)
 
@@ -99,13 +99,13 @@ solid_item p g =
     (solid_bare blank (reverse p.key) (all-reverse (λ b. not (blank b)) p.key (all_weaker clean_key (λ b. not (blank b)) key_solid p.key g.key)))
     (solid_append (0x3A ∷ []) p.value refl (solid_value p.value g.value))
 
-solid_trail : (ps : List Pair) → All Good ps → Solid (trail ps)
+solid_trail : (ps : List Pair) → AllByRecursion Good ps → Solid (trail ps)
 unfolding blank
 solid_trail [] g = refl
 solid_trail (p ∷ ps) g = solid_append (0x3B ∷ []) (item_text p ++ trail ps) refl (solid_append (item_text p) (trail ps) (solid_item p g.0) (solid_trail ps g.1))
 
 -- a whole value: items, the first of which does not begin with a blank
-module _ (p : Pair) (ps : List Pair) (g : All Good (p ∷ ps)) where
+module _ (p : Pair) (ps : List Pair) (g : AllByRecursion Good (p ∷ ps)) where
   pub whole_solid : Solid (item_text p ++ trail ps)
   whole_solid = solid_append (item_text p) (trail ps) (solid_item p g.0) (solid_trail ps g.1)
 

@@ -2,7 +2,7 @@
 use Rattle.std.proofs.Common.{◌≡◌, ℕ, suc, ◌+◌, ◌*◌, ◌<◌, ◌≤◌, Bool, true, eqb, ltb, List, [], ◌∷◌, map, length, take, Some, refl, ap, ◌∙◌, suc-mul, arith, length-append}
 use Rattle.std.proofs.lemmas.List.{take_all}
 use Rattle.std.proofs.lemmas.Bool.{and_from, cond-true, cond-false, ne_eqb, lt-ltb}
-use Rattle.std.specs.List.{AllByRecursion as All}
+use Rattle.std.specs.List.{AllByRecursion}
 use Rattle.byte_classes.specs.Sets.{text}
 use Rattle.text.specs.Laws.{Lacks, joined_by}
 use Rattle.text.specs.Splits.{pieces}
@@ -29,7 +29,7 @@ reads-length none = refl
 reads-length (more e r) = ap suc (reads-length r)
 
 -- what holds of each text of a lawful member holds of all of them
-pub reads_all : (P : List ℕ → Type 0) → ((t : List ℕ) (m : Pair) → member_of t ≡ Some m → P t) → {ts : List (List ℕ)} {ms : List Pair} → Reads ts ms → All P ts
+pub reads_all : (P : List ℕ → Type 0) → ((t : List ℕ) (m : Pair) → member_of t ≡ Some m → P t) → {ts : List (List ℕ)} {ms : List Pair} → Reads ts ms → AllByRecursion P ts
 reads_all P f none = tt
 reads_all P f (more {t} {m} e r) = (f t m e, reads_all P f r)
 
@@ -61,7 +61,7 @@ unfolding tracestate
 joined-read {t} {m} {ts} {ms} r few = ap (λ ps. members_of (take 32 ps)) (joined-pieces r) ∙ ap members_of (take_all 32 (t ∷ ts) (omega arith)) ∙ members-read r
 
 -- a test that all bytes pass, the separator too
-pub joined-all : (q : ℕ → Bool) (c : ℕ) → q c ≡ true → (ts : List (List ℕ)) → All (λ t. all q t ≡ true) ts → all q (joined_by c ts) ≡ true
+pub joined-all : (q : ℕ → Bool) (c : ℕ) → q c ≡ true → (ts : List (List ℕ)) → AllByRecursion (λ t. all q t ≡ true) ts → all q (joined_by c ts) ≡ true
 joined-all q c e [] h = refl
 joined-all q c e (t ∷ []) h = h.0
 joined-all q c e (t ∷ (u ∷ us)) h = all_append q t (c ∷ joined_by c (u ∷ us)) h.0 (and_from (q c) (all q (joined_by c (u ∷ us))) e (joined-all q c e (u ∷ us) h.1))
@@ -71,7 +71,7 @@ unfolding text
 joined-text {ts} r = joined-all text 0x2C refl ts (reads_all (λ t. all text t ≡ true) member-text r)
 
 -- a first text, and some of up to n bytes, each after a separator
-pub joined_length : (c n : ℕ) (t : List ℕ) (ts : List (List ℕ)) → All (λ u. length u ≤ n) ts → length (joined_by c (t ∷ ts)) ≤ length t + length ts * (n + 1)
+pub joined_length : (c n : ℕ) (t : List ℕ) (ts : List (List ℕ)) → AllByRecursion (λ u. length u ≤ n) ts → length (joined_by c (t ∷ ts)) ≤ length t + length ts * (n + 1)
 joined_length c n t [] h = omega arith
 joined_length c n t (u ∷ us) h =
     let rest = joined_length c n u us h.1 in

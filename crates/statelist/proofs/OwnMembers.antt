@@ -4,7 +4,7 @@ use Rattle.std.proofs.ByRecursion.{All-weaker}
 use Rattle.std.proofs.lemmas.Slice.Eq.{bytes_eq-Decides}
 use Rattle.std.proofs.lemmas.Bool.{both_ways, or_left}
 use Rattle.std.specs.Option.{option_map}
-use Rattle.std.specs.List.{AllByRecursion as All}
+use Rattle.std.specs.List.{AllByRecursion}
 use Rattle.std.specs.Str.{bytes_eq}
 use Rattle.text.specs.Laws.{joined_by}
 use Rattle.text.specs.Splits.{pieces}
@@ -26,7 +26,7 @@ agreed_step false false v None h = refl
 agreed_step false false v (Some w) h = refl
 
 -- where all members of a key have one value, that value counts
-pub counting_agreed : (key : List ℕ) (o : Option (List ℕ)) (ms : List Pair) → All (λ m. bytes_eq m.key key ≡ true → Some m.value ≡ o) ms → counting key ms ≡ cond (has_key key ms) o None
+pub counting_agreed : (key : List ℕ) (o : Option (List ℕ)) (ms : List Pair) → AllByRecursion (λ m. bytes_eq m.key key ≡ true → Some m.value ≡ o) ms → counting key ms ≡ cond (has_key key ms) o None
 unfolding counting
 counting_agreed key o [] h = refl
 counting_agreed key o (m ∷ ms) h = ap (λ x. newer x (value_at key m)) (counting_agreed key o ms h.1) ∙ agreed_step (bytes_eq m.key key) (has_key key ms) m.value o h.0
@@ -34,13 +34,13 @@ counting_agreed key o (m ∷ ms) h = ap (λ x. newer x (value_at key m)) (counti
 abbrev says : Option (List ℕ) → Option (List ℕ) → Found
 says d o = record { dd = d; ot = o }
 
-module _ (dd : List ℕ) (ot : Option (List ℕ)) (ms : List Pair) (pass : All (λ m. passes ot m ≡ true) ms) where
+module _ (dd : List ℕ) (ot : Option (List ℕ)) (ms : List Pair) (pass : AllByRecursion (λ m. passes ot m ≡ true) ms) where
   -- no other member has dd's key
-  pub dd_agrees : All (λ m. bytes_eq m.key (codes "dd") ≡ true → Some m.value ≡ Some dd) (pair (codes "dd", dd) ∷ ms)
+  pub dd_agrees : AllByRecursion (λ m. bytes_eq m.key (codes "dd") ≡ true → Some m.value ≡ Some dd) (pair (codes "dd", dd) ∷ ms)
   dd_agrees = ((λ _. refl), All-weaker (λ m. passes ot m ≡ true) (λ m. bytes_eq m.key (codes "dd") ≡ true → Some m.value ≡ Some dd) (λ m h e. absurd (both_ways (bytes_eq m.key (codes "dd")) (pass_not-dd ot m h) e)) ms pass)
 
   -- all members of ot's key have the ot value
-  pub ot_agrees : All (λ m. bytes_eq m.key (codes "ot") ≡ true → Some m.value ≡ ot) (pair (codes "dd", dd) ∷ ms)
+  pub ot_agrees : AllByRecursion (λ m. bytes_eq m.key (codes "ot") ≡ true → Some m.value ≡ ot) (pair (codes "dd", dd) ∷ ms)
   ot_agrees = ((λ e. absurd (both_ways false refl e)), All-weaker (λ m. passes ot m ≡ true) (λ m. bytes_eq m.key (codes "ot") ≡ true → Some m.value ≡ ot) (pass_ot ot) ms pass)
 
   pub own-found : found (pair (codes "dd", dd) ∷ ms) ≡ says (Some dd) (cond (has_key (codes "ot") ms) ot None)

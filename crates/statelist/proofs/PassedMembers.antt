@@ -4,7 +4,7 @@ use Rattle.std.proofs.ByRecursion.{All-append, All-take}
 use Rattle.std.proofs.lemmas.Slice.Eq.{bytes_eq-Decides}
 use Rattle.std.proofs.lemmas.List.{length-take}
 use Rattle.std.proofs.lemmas.Bool.{cond_both, cond-false, and_parts, not-true, false≢true}
-use Rattle.std.specs.List.{AllByRecursion as All}
+use Rattle.std.specs.List.{AllByRecursion}
 use Rattle.std.specs.Str.{bytes_eq}
 use Rattle.text.specs.Trims.{trimmed}
 use Rattle.tracestate.specs.Members.{Pair, pair, member_of}
@@ -19,18 +19,18 @@ pub record Passes (ot : Option (List ℕ)) (t : List ℕ) : Type 0 where
   pub is : member_of t ≡ Some member
   pub goes : passes ot member ≡ true
 
-pass_if : (ot : Option (List ℕ)) (t : List ℕ) (o : Option Pair) (rest : List (List ℕ)) → member_of t ≡ o → All (Passes ot) rest → All (Passes ot) (passed_if ot t o rest)
+pass_if : (ot : Option (List ℕ)) (t : List ℕ) (o : Option Pair) (rest : List (List ℕ)) → member_of t ≡ o → AllByRecursion (Passes ot) rest → AllByRecursion (Passes ot) (passed_if ot t o rest)
 pass_if ot t None rest e h = h
-pass_if ot t (Some m) rest e h = cond_both (passes ot m) (t ∷ rest) rest (All (Passes ot)) (λ go. (record { member = m; is = e; goes = go }, h)) (λ _. h)
+pass_if ot t (Some m) rest e h = cond_both (passes ot m) (t ∷ rest) rest (AllByRecursion (Passes ot)) (λ go. (record { member = m; is = e; goes = go }, h)) (λ _. h)
 
-pub all_pass : (ot : Option (List ℕ)) (ps : List (List ℕ)) → All (Passes ot) (passed ot ps)
+pub all_pass : (ot : Option (List ℕ)) (ps : List (List ℕ)) → AllByRecursion (Passes ot) (passed ot ps)
 unfolding passed
 all_pass ot [] = tt
 all_pass ot (p ∷ ps) = pass_if ot (trimmed p) (member_of (trimmed p)) (passed ot ps) refl (all_pass ot ps)
 
-pub new-passes : (ot : Option (List ℕ)) (ps : List (List ℕ)) → LawfulOt ot → All (Passes ot) (new_ot ot ps)
+pub new-passes : (ot : Option (List ℕ)) (ps : List (List ℕ)) → LawfulOt ot → AllByRecursion (Passes ot) (new_ot ot ps)
 new-passes None ps h = tt
-new-passes (Some v) ps h = cond_both (carries_ot v ps) [] ((codes "ot=" ++ v) ∷ []) (All (Passes (Some v))) (λ _. tt) (λ _. (record { member = pair (codes "ot", v); is = ot-member v h; goes = (bytes_eq-Decides v v).1 refl }, tt))
+new-passes (Some v) ps h = cond_both (carries_ot v ps) [] ((codes "ot=" ++ v) ∷ []) (AllByRecursion (Passes (Some v))) (λ _. tt) (λ _. (record { member = pair (codes "ot", v); is = ot-member v h; goes = (bytes_eq-Decides v v).1 refl }, tt))
 
 -- what is known of the members of a written list, before they are joined
 pub record Members (dd : List ℕ) (ot : Option (List ℕ)) (ts : List (List ℕ)) : Type 0 where
@@ -39,9 +39,9 @@ pub record Members (dd : List ℕ) (ot : Option (List ℕ)) (ts : List (List ℕ
   pub are : ts ≡ (codes "dd=" ++ dd) ∷ others
   pub few : length others ≤ 31
   pub reads : Reads others members
-  pub pass : All (λ m. passes ot m ≡ true) members
+  pub pass : AllByRecursion (λ m. passes ot m ≡ true) members
 
-members-by : (dd : List ℕ) (ot : Option (List ℕ)) (ts : List (List ℕ)) → length ts ≤ 31 → All (Passes ot) ts → Members dd ot ((codes "dd=" ++ dd) ∷ ts)
+members-by : (dd : List ℕ) (ot : Option (List ℕ)) (ts : List (List ℕ)) → length ts ≤ 31 → AllByRecursion (Passes ot) ts → Members dd ot ((codes "dd=" ++ dd) ∷ ts)
 members-by dd ot [] few h = record { others = []; members = []; are = refl; few = few; reads = none; pass = tt }
 members-by dd ot (t ∷ ts) few h =
     let rest = members-by dd ot ts (omega arith) h.1 in

@@ -3,7 +3,7 @@ use Rattle.std.proofs.Common.{◌≡◌, ℕ, Bool, true, false, cond, not, ◌|
 use Rattle.std.proofs.lemmas.Slice.Eq.{bytes_eq-Decides}
 use Rattle.std.proofs.lemmas.List.{take_all}
 use Rattle.std.proofs.lemmas.Bool.{false≢true, cond-true, and_from, and_parts, or_cases, or_parts, or_left, or_right}
-use Rattle.std.specs.List.{AllByRecursion as All}
+use Rattle.std.specs.List.{AllByRecursion}
 use Rattle.std.specs.Str.{bytes_eq}
 use Rattle.text.specs.Laws.{joined_by}
 use Rattle.text.specs.Trims.{trimmed}
@@ -22,7 +22,7 @@ read_off : (t : List ℕ) (m : Pair) → member_of t ≡ Some m → member_of (t
 read_off t m e = ap member_of (member-trimmed t m e) ∙ e
 
 -- members that pass are passed on unchanged
-pub passed-same : (ot : Option (List ℕ)) {ts : List (List ℕ)} {ms : List Pair} → Reads ts ms → All (λ m. passes ot m ≡ true) ms → passed ot ts ≡ ts
+pub passed-same : (ot : Option (List ℕ)) {ts : List (List ℕ)} {ms : List Pair} → Reads ts ms → AllByRecursion (λ m. passes ot m ≡ true) ms → passed ot ts ≡ ts
 unfolding passed
 passed-same ot none h = refl
 passed-same ot (more {t} {m} {ts} {ms} e r) h = (λ i. passed_if ot (member-trimmed t m e i) (read_off t m e i) (passed-same ot r h.1 i)) ∙ cond-true (passes ot m) (t ∷ ts) ts h.0
@@ -32,7 +32,7 @@ unfolding passed
 dd-not-passed ot dd ts h = let t = codes "dd=" ++ dd in ap (λ o. passed_if ot (trimmed t) o (passed ot ts)) (read_off t (pair (codes "dd", dd)) (dd-member dd h))
 
 -- a list with a member of ot's key carries the ot value
-carried-back : (v : List ℕ) {ts : List (List ℕ)} {ms : List Pair} → Reads ts ms → All (λ m. passes (Some v) m ≡ true) ms → has_key (codes "ot") ms ≡ true → carries_ot v ts ≡ true
+carried-back : (v : List ℕ) {ts : List (List ℕ)} {ms : List Pair} → Reads ts ms → AllByRecursion (λ m. passes (Some v) m ≡ true) ms → has_key (codes "ot") ms ≡ true → carries_ot v ts ≡ true
 unfolding carries_ot
 carried-back v none h k = absurd (false≢true k)
 carried-back v (more {t} {m} {ts} {ms} e r) h k =
@@ -48,19 +48,19 @@ carried-back v (more {t} {m} {ts} {ms} e r) h k =
 abbrev pub found_ot : Bool → Option (List ℕ) → Option (List ℕ)
 found_ot t ot = cond t ot None
 
-none_passes : (ot : Option (List ℕ)) (ms : List Pair) → has_key (codes "ot") ms ≡ false → All (λ m. passes ot m ≡ true) ms → All (λ m. passes None m ≡ true) ms
+none_passes : (ot : Option (List ℕ)) (ms : List Pair) → has_key (codes "ot") ms ≡ false → AllByRecursion (λ m. passes ot m ≡ true) ms → AllByRecursion (λ m. passes None m ≡ true) ms
 none_passes ot [] k h = tt
 none_passes ot (m ∷ ms) k h =
     let apart = or_parts (bytes_eq m.key (codes "ot")) (has_key (codes "ot") ms) k in
     (and_from _ _ (and_parts _ _ h.0).0 (ap (λ t. not t || false) apart.0), none_passes ot ms apart.1 h.1)
 
 -- under what is found all of them pass again
-pub pass_again : (t : Bool) (ot : Option (List ℕ)) (ms : List Pair) → has_key (codes "ot") ms ≡ t → All (λ m. passes ot m ≡ true) ms → All (λ m. passes (found_ot t ot) m ≡ true) ms
+pub pass_again : (t : Bool) (ot : Option (List ℕ)) (ms : List Pair) → has_key (codes "ot") ms ≡ t → AllByRecursion (λ m. passes ot m ≡ true) ms → AllByRecursion (λ m. passes (found_ot t ot) m ≡ true) ms
 pass_again true ot ms k h = h
 pass_again false ot ms k h = none_passes ot ms k h
 
 -- and there is no new ot
-pub nothing-new : (t : Bool) (ot : Option (List ℕ)) (p : List ℕ) {ts : List (List ℕ)} {ms : List Pair} → Reads ts ms → has_key (codes "ot") ms ≡ t → All (λ m. passes ot m ≡ true) ms → new_ot (found_ot t ot) (p ∷ ts) ≡ []
+pub nothing-new : (t : Bool) (ot : Option (List ℕ)) (p : List ℕ) {ts : List (List ℕ)} {ms : List Pair} → Reads ts ms → has_key (codes "ot") ms ≡ t → AllByRecursion (λ m. passes ot m ≡ true) ms → new_ot (found_ot t ot) (p ∷ ts) ≡ []
 unfolding carries_ot
 nothing-new true None p r k h = refl
 nothing-new true (Some v) p {ts} r k h = cond-true (carries_ot v (p ∷ ts)) [] ((codes "ot=" ++ v) ∷ []) (or_right (has_value v (member_of (trimmed p))) (carries_ot v ts) (carried-back v r h k))

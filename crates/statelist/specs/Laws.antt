@@ -1,6 +1,6 @@
 -- What a written list is, in the words of its reader and of the list that was carried. Assumes nothing.
 use Rattle.std.specs.Prelude.{◌≡◌, ℕ, ◌≤◌, Bool, true, false, cond, not, ◌&&◌, ◌≢◌, ◌⊎◌, List, [], ◌∷◌, ◌++◌, map, length, drop, Some, None, codes, filter, Option, nat_lt}
-use Rattle.std.specs.List.{AllByRecursion as All}
+use Rattle.std.specs.List.{AllByRecursion}
 use Rattle.std.specs.Str.{bytes_eq}
 use Rattle.text.specs.Splits.{pieces}
 use Rattle.text.specs.Texts.{lawful}
@@ -41,7 +41,7 @@ pub record LawfulList (dd : List ℕ) (ot list : Option (List ℕ)) : Type 0 whe
   pub others : List Pair
   pub read : tracestate (written_list dd ot list) ≡ Some (pair (codes "dd", dd) ∷ others)
   pub few : length others ≤ 31
-  pub one_dd : All (λ m. m.key ≢ codes "dd") others
+  pub one_dd : AllByRecursion (λ m. m.key ≢ codes "dd") others
   pub between_commas : pieces 0x2C (written_list dd ot list) ≡ written_members dd ot list
   pub no_blanks : member_texts (written_members dd ot list) ≡ written_members dd ot list
   pub each_read : map member_of (written_members dd ot list) ≡ map Some (pair (codes "dd", dd) ∷ others)
@@ -72,7 +72,7 @@ pub record OwnRead (dd : List ℕ) (ot list : Option (List ℕ)) : Type 0 where
   pub members : List Pair
   pub read : tracestate (written_list dd ot list) ≡ Some members
   pub says : read_tracestate (written_list dd ot list) ≡ Some (record { dd = Some dd; ot = cond (has_key (codes "ot") members) ot None })
-  pub one_ot : All (λ m. m.key ≡ codes "ot" → Some m.value ≡ ot) members
+  pub one_ot : AllByRecursion (λ m. m.key ≡ codes "ot" → Some m.value ≡ ot) members
   pub new_ot_stands : (v : List ℕ) → ot ≡ Some v → carries_ot v (carried_pieces list) ≡ false → read_tracestate (written_list dd ot list) ≡ Some (record { dd = Some dd; ot = Some v })
 
 abbrev pub OwnReadBack : Type 0

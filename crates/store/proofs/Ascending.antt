@@ -2,7 +2,7 @@
 use Rattle.std.proofs.Common.{◌≡◌, ℕ, Bool, true, false, cond, ◌&&◌, List, [], ◌∷◌, ◌++◌, filter, refl}
 use Rattle.std.proofs.ByRecursion.{All-append, All-weaker, all_kept_by, kept_by_passes}
 use Rattle.std.proofs.lemmas.Bool.{and_from}
-use Rattle.std.specs.List.{AllByRecursion as All}
+use Rattle.std.specs.List.{AllByRecursion}
 use Rattle.text.specs.Texts.{lawful}
 use Rattle.store.specs.Tags.{Tag, before, below, above, placed, without, ascends, all_lawful}
 use Rattle.store.proofs.Orders.{before_trans}
@@ -10,7 +10,7 @@ use Rattle.store.proofs.Parting.{every-all, all-every, ascends-parts, ascends_fr
 
 -- every key of the first comes before every key of the second
 abbrev Ahead : List Tag → List Tag → Type 0
-Ahead ts us = All (λ t. After t.0 us) ts
+Ahead ts us = AllByRecursion (λ t. After t.0 us) ts
 
 ascends_append : (ts us : List Tag) → ascends ts ≡ true → ascends us ≡ true → Ahead ts us → ascends (ts ++ us) ≡ true
 ascends_append [] us a b h = b
@@ -18,7 +18,7 @@ ascends_append (t ∷ ts) us a b h =
     let parts = ascends-parts t ts a in
     ascends_from t (ts ++ us) (All-append _ ts us parts.0 h.0) (ascends_append ts us parts.1 b h.1)
 
-kept_more : (p : Tag → Bool) (t : Tag) (ts : List Tag) (x : Bool) → All (λ u. before t.0 u.0 ≡ true) ts → ascends (filter p ts) ≡ true → ascends (cond x (t ∷ filter p ts) (filter p ts)) ≡ true
+kept_more : (p : Tag → Bool) (t : Tag) (ts : List Tag) (x : Bool) → AllByRecursion (λ u. before t.0 u.0 ≡ true) ts → ascends (filter p ts) ≡ true → ascends (cond x (t ∷ filter p ts) (filter p ts)) ≡ true
 kept_more p t ts true a h = ascends_from t (filter p ts) (all_kept_by p _ ts a) h
 kept_more p t ts false a h = h
 
@@ -42,7 +42,7 @@ module _ (k : List ℕ) (ts : List Tag) (h : ascends ts ≡ true) where
   unfolding without
   ascends-without = ascends_append (below k ts) (above k ts) (ascends-kept _ ts h) (ascends-kept _ ts h) below_ahead
 
-  both_ahead : (us : List Tag) → All (λ t. before t.0 k ≡ true) us → Ahead us (above k ts) → (v : List ℕ) → Ahead us ((k, v) ∷ above k ts)
+  both_ahead : (us : List Tag) → AllByRecursion (λ t. before t.0 k ≡ true) us → Ahead us (above k ts) → (v : List ℕ) → Ahead us ((k, v) ∷ above k ts)
   both_ahead [] a b v = tt
   both_ahead (u ∷ us) a b v = ((a.0, b.0), both_ahead us a.1 b.1 v)
 
@@ -59,12 +59,12 @@ Lawful t = (lawful t.0 && lawful t.1) ≡ true
 pub lawful-without : (k : List ℕ) (ts : List Tag) → all_lawful ts ≡ true → all_lawful (without k ts) ≡ true
 unfolding all_lawful without
 lawful-without k ts h =
-    let each : All Lawful ts = every-all _ ts h in
+    let each : AllByRecursion Lawful ts = every-all _ ts h in
     all-every _ (below k ts ++ above k ts) (All-append Lawful (below k ts) (above k ts) (all_kept_by _ Lawful ts each) (all_kept_by _ Lawful ts each))
 
 pub lawful-placed : (k v : List ℕ) (ts : List Tag) → lawful k ≡ true → lawful v ≡ true → all_lawful ts ≡ true → all_lawful (placed k v ts) ≡ true
 unfolding all_lawful placed
 lawful-placed k v ts a b h =
-    let each : All Lawful ts = every-all _ ts h in
+    let each : AllByRecursion Lawful ts = every-all _ ts h in
     all-every _ (below k ts ++ (k, v) ∷ above k ts)
     (All-append Lawful (below k ts) ((k, v) ∷ above k ts) (all_kept_by _ Lawful ts each) (and_from (lawful k) (lawful v) a b, all_kept_by _ Lawful ts each))

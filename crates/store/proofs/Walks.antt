@@ -2,13 +2,13 @@
 use Rattle.std.proofs.Common.{◌≡◌, ℕ, zero, suc, ◌<◌, Bool, true, false, cond, ◌&&◌, ◌⊎◌, List, [], ◌∷◌, Some, sym, refl, ap, ◌∙◌, subst, inl, inr, arith}
 use Rattle.std.proofs.lemmas.Slice.Eq.{bytes_eq-Decides}
 use Rattle.std.proofs.lemmas.Bool.{and_parts, cases_order}
-use Rattle.std.specs.List.{AllByRecursion as All, slice_get}
+use Rattle.std.specs.List.{AllByRecursion, slice_get}
 use Rattle.std.specs.Str.{bytes_eq}
 use Rattle.text.specs.Texts.{lawful}
 use Rattle.store.specs.Tags.{Tag, before, looked, ascends, all_lawful}
 use Rattle.store.proofs.Parting.{every-all, ascends-parts, apart-before, looked_here, looked_past}
 
-all_nth : (P : Tag → Type 0) (ts : List Tag) (i : ℕ) (t : Tag) → All P ts → slice_get ts i ≡ Some t → P t
+all_nth : (P : Tag → Type 0) (ts : List Tag) (i : ℕ) (t : Tag) → AllByRecursion P ts → slice_get ts i ≡ Some t → P t
 all_nth P [] i t a e = let z : ◌≡◌ {A = ℕ} 0 1 = cc in absurd (omega arith)
 all_nth P (u ∷ us) zero t a e = let f : u ≡ t = cc in subst P f a.0
 all_nth P (u ∷ us) (suc i) t a e = all_nth P us i t a.1 e

@@ -1,7 +1,7 @@
 -- Pieces and the text that they make up: there and back. Assumes nothing.
 use Rattle.std.proofs.Common.{◌≡◌, ℕ, Bool, true, false, cond, not, ◌&&◌, eqb, List, [], ◌∷◌, ◌++◌, sym, refl, ap, ◌∙◌}
 use Rattle.std.proofs.lemmas.Bool.{eqb-true, eq-eqb, and_parts, cond-true, cond-false, not-true}
-use Rattle.std.specs.List.{AllByRecursion as All}
+use Rattle.std.specs.List.{AllByRecursion}
 use Rattle.text.specs.Laws.{Lacks, joined_by, PiecesJoin, PiecesOnly}
 use Rattle.text.specs.Splits.{other, on_first, pieces}
 use Rattle.text.specs.Texts.{all}
@@ -17,7 +17,7 @@ record Split (c : ℕ) (s : List ℕ) (all-of-them : List (List ℕ)) : Type 0 w
   others : List (List ℕ)
   are : all-of-them ≡ first ∷ others
   join : joined_by c (first ∷ others) ≡ s
-  lack : All (Lacks c) (first ∷ others)
+  lack : AllByRecursion (Lacks c) (first ∷ others)
 
 split_more : (t : Bool) (c b : ℕ) (bs : List ℕ) (ps : List (List ℕ)) → eqb b c ≡ t → Split c bs ps → Split c (b ∷ bs) (cond t ([] ∷ ps) (on_first b ps))
 split_more true c b bs ps e h =

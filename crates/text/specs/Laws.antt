@@ -1,7 +1,7 @@
 -- What the parts of a text are, without saying how they are found: each relation has one solution, and the definitions give it.
 -- Assumes nothing.
 use Rattle.std.specs.Prelude.{◌≡◌, ℕ, Bool, true, not, List, [], ◌∷◌, ◌++◌, reverse, Some, None}
-use Rattle.std.specs.List.{AllByRecursion as All}
+use Rattle.std.specs.List.{AllByRecursion}
 use Rattle.byte_classes.specs.Sets.{blank}
 use Rattle.text.specs.Splits.{other, split_once, pieces}
 use Rattle.text.specs.Takes.{stripped}
@@ -54,10 +54,10 @@ joined_by c (p ∷ (q ∷ ps)) = p ++ c ∷ joined_by c (q ∷ ps)
 
 -- the pieces of a text are the texts without the separator that make it up again
 abbrev pub PiecesJoin : Type 0
-PiecesJoin = (c : ℕ) (s : List ℕ) → (joined_by c (pieces c s) ≡ s) × All (Lacks c) (pieces c s)
+PiecesJoin = (c : ℕ) (s : List ℕ) → (joined_by c (pieces c s) ≡ s) × AllByRecursion (Lacks c) (pieces c s)
 
 abbrev pub PiecesOnly : Type 0
-PiecesOnly = (c : ℕ) (p : List ℕ) (ps : List (List ℕ)) → All (Lacks c) (p ∷ ps) → pieces c (joined_by c (p ∷ ps)) ≡ p ∷ ps
+PiecesOnly = (c : ℕ) (p : List ℕ) (ps : List (List ℕ)) → AllByRecursion (Lacks c) (p ∷ ps) → pieces c (joined_by c (p ∷ ps)) ≡ p ∷ ps
 
 -- a prefix is stripped exactly where it stands
 abbrev pub StripIs : Type 0
