@@ -6,6 +6,7 @@ use Rattle.text.specs.Takes.{stripped}
 use Rattle.number.specs.Numbers.{number64, small, tid}
 use Rattle.trace.specs.declared.ids.TraceId.{TraceId}
 use Rattle.tracestate.specs.Members.{Pair, pair, last_value}
+use Rattle.carrier.specs.Names.{Table}
 use Rattle.fault.specs.declared.Cause.{Cause}
 use Rattle.fault.specs.declared.Cause.TheVariants as cause
 use Rattle.propagation.specs.Changes.{Change, put, remove, origin}
@@ -18,6 +19,16 @@ pub record Shown : Type 0 where
   pub origin : Option (List ℕ)
   pub priority : Option (List ℕ)
   pub tags : Option (List ℕ)
+
+-- what a carrier shows under the five names
+abbrev pub shown_headers : Table → Shown
+shown_headers t = record {
+  trace = t (codes "x-datadog-trace-id");
+  parent = t (codes "x-datadog-parent-id");
+  origin = t (codes "x-datadog-origin");
+  priority = t (codes "x-datadog-sampling-priority");
+  tags = t (codes "x-datadog-tags");
+}
 
 -- a tag's key and value: a piece splits at its first `=`, and its key begins with `_dd.p.`
 abbrev pub if_propagated : Option (List ℕ × List ℕ) → List Pair

@@ -4,7 +4,7 @@ use Rattle.std.proofs.ByRecursion.{All-append}
 use Rattle.std.proofs.lemmas.Bool.{ltb-true}
 use Rattle.std.specs.List.{AllByRecursion}
 use Rattle.byte_classes.specs.Sets.{hex, blank, tag_key_replaced}
-use Rattle.text.proofs.Alls.{All-append as bytes-append}
+use Rattle.text.proofs.Alls.{all_append as bytes_append}
 use Rattle.text.specs.Texts.{all}
 use Rattle.number.specs.Numbers.{small_text}
 use Rattle.tracestate.specs.Items.{items}
@@ -76,7 +76,7 @@ good_parent text d h = good_if (there text (codes ";p:" ++ d)) (codes "p") d ref
 
 good_tag : (t : Tag) → Good (tag_item (written t))
 unfolding tag_key_replaced
-good_tag t = good_one (codes "t." ++ written_key t.0) (written_value t.1) (bytes-append clean_key (codes "t.") (written_key t.0) refl (clean_key_lem t.0)) (clean_value_lem t.1)
+good_tag t = good_one (codes "t." ++ written_key t.0) (written_value t.1) (bytes_append clean_key (codes "t.") (written_key t.0) refl (clean_key_lem t.0)) (clean_value_lem t.1)
 
 good_written : (ts : List Tag) → AllByRecursion Good (map tag_item (map written ts))
 good_written [] = tt

@@ -18,7 +18,7 @@ use Rattle.propagation.specs.Faulted.{faulted}
 use Rattle.propagation.specs.Settings.{Left, w3c_names, datadog_names, unset_all}
 use Rattle.w3c_extract.specs.Reads.{w3c_told}
 use Rattle.w3c_inject.specs.Writes.{w3c_inject}
-use Rattle.datadog_extract.specs.Reads.{Shown, datadog_told, shown-headers}
+use Rattle.datadog_extract.specs.Reads.{Shown, datadog_told, shown_headers}
 use Rattle.datadog_inject.specs.Writes.{Injected, datadog_inject}
 use Rattle.datadog_inject.specs.declared.answer.TagsAnswer.{TagsAnswer}
 use Rattle.relay.specs.declared.calls.Answer.{Answer}
@@ -98,7 +98,7 @@ module _ (K : Kind) where
   extract_w3c_turn s = turned (plain (faulted propagator.Traceparent operation.Extract (w3c_ended s).answer)) (state K (w3c_ended s).desk s.limit s.held)
 
   abbrev pub datadog_ended : State K → Ended (Unit {0})
-  datadog_ended s = extract (datadog_told s.limit (shown-headers (shown s))) (desk s.context s.spare)
+  datadog_ended s = extract (datadog_told s.limit (shown_headers (shown s))) (desk s.context s.spare)
 
   abbrev pub extract_datadog_turn : State K → Turn K
   extract_datadog_turn s = turned (plain (faulted propagator.Datadog operation.Extract (datadog_ended s).answer)) (state K (datadog_ended s).desk s.limit s.held)

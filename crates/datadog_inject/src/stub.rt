@@ -1,1 +1,0 @@
-ghost use Rattle.datadog_inject.specs.Writes.{tried};
