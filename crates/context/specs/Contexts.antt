@@ -1,5 +1,5 @@
 -- What a context is to its caller. Assumes nothing.
-use Rattle.std.specs.Prelude.{ℕ, Bool, true, false, cond, ◌&&◌, List, ℤ, Some, None, codes, Option}
+use Rattle.std.specs.Prelude.{ℕ, Bool, false, ◌&&◌, List, ℤ, Some, None, codes, Option}
 use Rattle.std.specs.Option.{option_map}
 use Rattle.store.specs.Contents.{Contents}
 use Rattle.store.specs.Stores.{held}

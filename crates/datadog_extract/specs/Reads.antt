@@ -1,10 +1,9 @@
 -- What the five Datadog headers say to an extract. Assumes nothing.
-use Rattle.std.specs.Prelude.{ℕ, Bool, true, false, cond, not, ◌&&◌, List, [], ◌∷◌, ◌++◌, map, length, ℤ, pos, is_some, Some, None, Ok, Err, codes, Option, Result, ◌==◌, int_le, nat_lt}
-use Rattle.std.specs.Option.{option_map, unwrap_or}
+use Rattle.std.specs.Prelude.{ℕ, Bool, false, cond, List, [], ◌∷◌, ◌++◌, map, length, ℤ, pos, is_some, Some, None, Ok, Err, codes, Option, Result, ◌==◌, int_le, nat_lt}
+use Rattle.std.specs.Option.{unwrap_or}
 use Rattle.text.specs.Splits.{pieces, split_once}
 use Rattle.text.specs.Takes.{stripped}
 use Rattle.number.specs.Numbers.{number64, small, tid}
-use Rattle.trace.specs.declared.ids.TraceId.{TraceId}
 use Rattle.tracestate.specs.Members.{Pair, pair, last_value}
 use Rattle.carrier.specs.Names.{Table}
 use Rattle.fault.specs.declared.Cause.{Cause}

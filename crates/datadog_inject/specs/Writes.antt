@@ -1,5 +1,5 @@
 -- What a Datadog inject of a context puts and sets, and what it answers. Assumes nothing.
-use Rattle.std.specs.Prelude.{ℕ, Bool, true, false, cond, not, ◌&&◌, ◌||◌, List, [], ◌∷◌, ◌++◌, map, length, ℤ, is_some, Some, None, Ok, Err, codes, filter, Option, Result, ◌==◌, nat_lt}
+use Rattle.std.specs.Prelude.{ℕ, Bool, cond, not, ◌&&◌, List, [], ◌∷◌, ◌++◌, map, length, ℤ, is_some, Some, None, Ok, Err, codes, filter, Option, Result, ◌==◌, nat_lt}
 use Rattle.byte_classes.specs.Sets.{datadog_key, datadog_value}
 use Rattle.text.specs.Laws.{joined_by}
 use Rattle.text.specs.Takes.{stripped}

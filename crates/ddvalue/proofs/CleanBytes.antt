@@ -1,11 +1,9 @@
 -- The bytes of what is written: clean ones, which writing and reading once more keep. Assumes nothing.
-use Rattle.std.proofs.Common.{◌≡◌, ℕ, zero, suc, Bool, true, false, cond, not, ◌&&◌, List, [], ◌∷◌, ◌++◌, map, reverse, length, take, drop, sym, refl, ap, ◌∙◌, append-nil, arith}
+use Rattle.std.proofs.Common.{◌≡◌, ℕ, zero, suc, Bool, true, not, ◌&&◌, List, [], ◌∷◌, map, reverse, take, sym, refl, ap, ◌∙◌, append-nil, arith}
 use mathlib.Core.List.{reverse-reverse}
 use Rattle.std.proofs.lemmas.Bool.{and_parts, and_from}
 use Rattle.std.proofs.lemmas.Bool.Decides.{nat_tests}
-use Rattle.std.specs.List.{prefix_len}
 use Rattle.byte_classes.specs.Sets.{blank, space, digit, hex, tracestate_value, tag_key_replaced, tag_value_replaced, equals, tilde}
-use Rattle.text.proofs.Alls.{all-reverse}
 use Rattle.text.proofs.Trimming.{back_mirrored, front-passes, back_off}
 use Rattle.text.specs.Laws.{bare}
 use Rattle.text.specs.Splits.{other}

@@ -1,7 +1,6 @@
 -- A dd value as its items, all of them clean. Assumes nothing.
-use Rattle.std.proofs.Common.{◌≡◌, ℕ, ◌+◌, ◌-◌, ◌<◌, ◌≤◌, Bool, true, false, cond, ltb, leb, List, [], ◌∷◌, ◌++◌, map, length, ℤ, pos, Some, None, codes, Option, unwrap_or, sym, refl, ap, ◌∙◌, append_assoc, append-nil, arith, length-append}
+use Rattle.std.proofs.Common.{◌≡◌, ℕ, ◌-◌, Bool, true, false, cond, leb, List, [], ◌∷◌, ◌++◌, map, length, ℤ, pos, Some, None, codes, Option, unwrap_or, sym, refl, ap, ◌∙◌, append_assoc, append-nil}
 use Rattle.std.proofs.ByRecursion.{All-append}
-use Rattle.std.proofs.lemmas.Bool.{ltb-true}
 use Rattle.std.specs.List.{AllByRecursion}
 use Rattle.byte_classes.specs.Sets.{hex, blank, tag_key_replaced}
 use Rattle.text.proofs.Alls.{all_append as bytes_append}
@@ -11,11 +10,11 @@ use Rattle.tracestate.specs.Items.{items}
 use Rattle.tracestate.specs.Members.{Pair}
 use Rattle.store.specs.Tags.{Tag}
 use Rattle.context.specs.Ranges.{priority_fits}
-use Rattle.ddvalue.specs.Laws.{Digits, item, there, origin_said, parent_said, written, roomy, tags_said, item_if, tag_item, dd_items}
+use Rattle.ddvalue.specs.Laws.{item, there, origin_said, parent_said, written, roomy, tags_said, item_if, tag_item, dd_items}
 use Rattle.ddvalue.specs.Values.{written_key, written_value, added, s_part, with_origin, propagated, entry, fitting, tags_part, untagged, dd_text}
 use Rattle.ddvalue.proofs.CleanBytes.{clean_key, Clean, clean_key_lem, clean_value_lem}
 use Rattle.ddvalue.proofs.ItemTexts.{item_text, trail, trail_append, Good, whole-items}
-use Rattle.ddvalue.proofs.Priorities.{said_fits, clean_priority, short-priority, clean_digits}
+use Rattle.ddvalue.proofs.Priorities.{said_fits, clean_priority, clean_digits}
 
 -- one part more, as items
 added-by : (t : Bool) (text part : List ℕ) (ps : List Pair) → part ≡ trail ps → cond t (text ++ part) text ≡ text ++ trail (cond t ps [])

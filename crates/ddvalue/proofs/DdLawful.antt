@@ -1,5 +1,5 @@
 -- A dd value is a lawful tracestate value, and not too long. Assumes nothing.
-use Rattle.std.proofs.Common.{◌≡◌, ℕ, ◌+◌, ◌-◌, ◌<◌, ◌≤◌, Bool, true, false, cond, not, ◌&&◌, eqb, ltb, leb, List, [], ◌∷◌, ◌++◌, length, get_or, take, ℤ, pos, Some, None, codes, Option, unwrap_or, sym, refl, ap, ◌∙◌, subst, arith}
+use Rattle.std.proofs.Common.{◌≡◌, ℕ, ◌-◌, ◌<◌, ◌≤◌, Bool, true, false, cond, not, ◌&&◌, eqb, ltb, leb, List, ◌++◌, length, get_or, take, ℤ, pos, Some, None, codes, Option, unwrap_or, sym, refl, ap, subst, arith}
 use Rattle.std.proofs.lemmas.Bool.{and_parts, and_from, lt-ltb, le-leb, ltb-true, eqb-true}
 use Rattle.byte_classes.specs.Sets.{hex, space, tracestate_value}
 use Rattle.text.specs.Texts.{all}
@@ -10,7 +10,7 @@ use Rattle.store.specs.Tags.{Tag}
 use Rattle.context.specs.Contexts.{Context, tag}
 use Rattle.context.specs.Ranges.{priority_fits}
 use Rattle.ddvalue.specs.Laws.{Digits}
-use Rattle.ddvalue.specs.Values.{written_value, added, s_part, with_origin, parent_tag, last_parent, untagged, tags_part, dd_text, dd_value}
+use Rattle.ddvalue.specs.Values.{written_value, added, s_part, with_origin, parent_tag, last_parent, untagged, tags_part, dd_text}
 use Rattle.ddvalue.proofs.DdItems.{first-item, other_items, text_is, all_good}
 use Rattle.ddvalue.proofs.ItemTexts.{item_text, trail, last_solid, whole_solid, whole-lawful}
 use Rattle.ddvalue.proofs.Priorities.{said_fits, short-priority}

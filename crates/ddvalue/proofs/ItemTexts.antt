@@ -1,5 +1,5 @@
 -- A text of clean items behind semicolons: its pieces, its items, its ends and its bytes. Assumes nothing.
-use Rattle.std.proofs.Common.{◌≡◌, ℕ, ◌-◌, ◌<◌, Bool, true, false, cond, not, ◌&&◌, List, [], ◌∷◌, ◌++◌, map, reverse, length, get_or, Some, None, codes, Option, sym, refl, ap, ◌∙◌, append_assoc, append-nil, arith}
+use Rattle.std.proofs.Common.{◌≡◌, ℕ, ◌-◌, ◌<◌, Bool, true, not, List, [], ◌∷◌, ◌++◌, map, reverse, length, get_or, Some, sym, refl, ap, ◌∙◌, append_assoc, append-nil, arith}
 use mathlib.Core.List.{reverse-append}
 use Rattle.std.proofs.lemmas.List.{get_or-reverse}
 use Rattle.std.proofs.lemmas.Bool.{and_parts, and_from}
@@ -12,7 +12,7 @@ use Rattle.text.proofs.Joins.{pieces-front, pieces_one}
 use Rattle.text.proofs.Splitting.{split_found}
 use Rattle.text.proofs.Trimming.{trim_only}
 use Rattle.text.specs.Laws.{bare, Lacks}
-use Rattle.text.specs.Splits.{other, split_once, pieces}
+use Rattle.text.specs.Splits.{other, pieces}
 use Rattle.text.specs.Texts.{all}
 use Rattle.text.specs.Trims.{trimmed}
 use Rattle.tracestate.specs.Items.{item_of, also, items_of, items}

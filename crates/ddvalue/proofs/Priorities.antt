@@ -1,8 +1,8 @@
 -- A priority as it is written: clean, short, and read back. Assumes nothing.
-use Rattle.std.proofs.Common.{◌≡◌, ℕ, suc, ◌^◌, ◌<◌, ◌≤◌, Bool, true, false, not, ◌&&◌, ◌||◌, T, eqb, List, [], ◌∷◌, reverse, length, ℤ, pos, negsuc, ◌≤ℤ◌, Some, None, Option, unwrap_or, sym, refl, ap, ◌∙◌, subst, arith}
+use Rattle.std.proofs.Common.{◌≡◌, ℕ, suc, ◌^◌, ◌<◌, ◌≤◌, Bool, true, not, ◌||◌, T, eqb, List, [], ◌∷◌, reverse, length, ℤ, pos, negsuc, ◌≤ℤ◌, Some, None, Option, unwrap_or, sym, refl, ap, ◌∙◌, subst, arith}
 use lib.Signed.{le_z, le_z_yes}
 use Rattle.std.proofs.lemmas.Int.{ints}
-use Rattle.std.proofs.lemmas.Bool.{and_parts, and_from, or_left, or_cases}
+use Rattle.std.proofs.lemmas.Bool.{and_parts, or_left}
 use Rattle.std.proofs.lemmas.Bool.Decides.{nat_tests}
 use Rattle.byte_classes.specs.Sets.{space, digit, hex, tracestate_value, tilde}
 use Rattle.text.proofs.Alls.{all-reverse}
@@ -13,7 +13,7 @@ use Rattle.number.proofs.ReadBack.{smalls_read_back}
 use Rattle.number.specs.Numbers.{small, small_text, decimal_text}
 use Rattle.context.specs.Ranges.{priority_fits}
 use Rattle.w3c_extract.specs.Reads.{decoded}
-use Rattle.ddvalue.proofs.CleanBytes.{clean_value, Clean, all_weaker, read_plain, digit-hex, hex-value, hex_solid}
+use Rattle.ddvalue.proofs.CleanBytes.{clean_value, Clean, all_weaker, read_plain, hex-value, hex_solid}
 
 at_most : (a b : ℤ) → le_z a b ≡ true → a ≤ℤ b
 at_most a b e = le_z_yes (subst T (sym e) tt)

@@ -1,5 +1,5 @@
 -- The dd value of a context, written. Assumes nothing.
-use Rattle.std.specs.Prelude.{ℕ, ◌-◌, Bool, true, cond, ◌&&◌, List, [], ◌∷◌, ◌++◌, map, length, ℤ, pos, Some, None, codes, Option, ◌==◌, nat_le, nat_lt}
+use Rattle.std.specs.Prelude.{ℕ, ◌-◌, cond, ◌&&◌, List, [], ◌∷◌, ◌++◌, map, length, ℤ, pos, Some, None, codes, Option, ◌==◌, nat_le, nat_lt}
 use Rattle.std.specs.Option.{unwrap_or}
 use Rattle.byte_classes.specs.Sets.{equals, hex, space, tag_key_replaced, tag_value_replaced}
 use Rattle.text.specs.Takes.{stripped}

@@ -1,16 +1,14 @@
 -- Chains of changes and of settings. Assumes nothing.
-use Rattle.std.proofs.Common.{◌≡◌, ℕ, List, [], ◌∷◌, ◌++◌, Some, Ok, Err, Result, sym, refl, ap, ◌∙◌, arith}
+use Rattle.std.proofs.Common.{◌≡◌, ℕ, List, [], ◌∷◌, ◌++◌, Some, Ok, Err, Result, refl, ap, ◌∙◌, arith}
 use Rattle.carrier.specs.Kinds.{Kind}
 use Rattle.carrier.specs.Steps.{set_answer, after_set}
 use Rattle.carrier.specs.declared.faults.SetFault.{SetFault}
 use Rattle.store.specs.declared.faults.StoreFault.{StoreFault}
-use Rattle.store.specs.Contents.{Contents, put_answer, after_put, after_remove, origin_answer, after_origin, with_tags, with_origin}
-use Rattle.store.specs.Tags.{placed}
+use Rattle.store.specs.Contents.{Contents, after_remove}
 use Rattle.store.proofs.Rules.{keeps_tags}
 use Rattle.fault.specs.Faults.{header_text}
-use Rattle.fault.specs.declared.Cause.{Cause}
-use Rattle.propagation.specs.Changes.{Change, put, remove, origin, Outcome, outcome, change, changes, made, all_made, unless_refused}
-use Rattle.propagation.specs.Settings.{Setting, Left, left, set_all, unless_full, continued}
+use Rattle.propagation.specs.Changes.{Change, put, remove, origin, Outcome, change, changes, made, all_made, unless_refused}
+use Rattle.propagation.specs.Settings.{Setting, set_all, unless_full, continued}
 
 abbrev Next : Type 0
 Next = Contents → Outcome

@@ -10,7 +10,7 @@ use Rattle.carrier.proofs.Rules.{keeps_the_rules}
 use Rattle.fault.specs.Faults.{header_text}
 use Rattle.fault.specs.declared.Cause.{Cause}
 use Rattle.fault.specs.declared.Header.{Header}
-use Rattle.propagation.specs.Settings.{Setting, Left, left, unset_all, set_all, unless_full, all_or_none, inject}
+use Rattle.propagation.specs.Settings.{Setting, unset_all, set_all, unless_full, all_or_none}
 use Rattle.propagation.specs.Tables.{named, showing, unset_in, set_in, Within, injected_table, AllOrNone}
 
 -- a test that fails, of equal texts

@@ -1,5 +1,5 @@
 -- What an extract makes of the context and of the store that it fills, once the headers are read. Assumes nothing.
-use Rattle.std.specs.Prelude.{ℕ, Bool, true, cond, List, ℤ, is_some, Some, None, Ok, Err, codes, Option, Result}
+use Rattle.std.specs.Prelude.{ℕ, true, cond, List, ℤ, is_some, Some, None, Ok, Err, codes, Option, Result}
 use Rattle.number.specs.Numbers.{mechanism}
 use Rattle.trace.specs.declared.ids.TraceId.{TraceId}
 use Rattle.fault.specs.declared.Cause.{Cause}

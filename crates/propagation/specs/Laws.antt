@@ -1,10 +1,7 @@
 -- What a chain of changes and a chain of settings come to. Assumes nothing.
 use Rattle.std.specs.Prelude.{◌≡◌, List, ◌++◌, Ok}
-use Rattle.carrier.specs.Kinds.{Kind}
-use Rattle.fault.specs.declared.Header.{Header}
 use Rattle.store.specs.Contents.{Contents}
 use Rattle.propagation.specs.Changes.{Change, changes, all_made, unless_refused}
-use Rattle.propagation.specs.Settings.{Setting, set_all}
 
 -- changes that are all accepted leave what they make of the contents
 abbrev pub AcceptedAreMade : Type 0

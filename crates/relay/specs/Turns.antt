@@ -1,5 +1,5 @@
 -- What each call of a relay answers and leaves, over any kind of carrier. Assumes nothing.
-use Rattle.std.specs.Prelude.{ℕ, Bool, true, false, cond, ◌||◌, List, [], ◌∷◌, ◌++◌, Some, None, Ok, Err, codes, Option, Result, ◌==◌, nat_lt}
+use Rattle.std.specs.Prelude.{ℕ, cond, ◌||◌, List, ◌++◌, Some, None, Ok, Err, codes, Option, Result, ◌==◌, nat_lt}
 use Rattle.trace.specs.Traces.{is_zero}
 use Rattle.carrier.specs.Kinds.{Kind}
 use Rattle.carrier.specs.Names.{Table}
@@ -7,9 +7,7 @@ use Rattle.fault.specs.declared.Cause.{Cause}
 use Rattle.fault.specs.declared.Cause.TheVariants as cause
 use Rattle.fault.specs.declared.Fault.{Fault}
 use Rattle.fault.specs.declared.Header.{Header}
-use Rattle.fault.specs.declared.Operation.{Operation}
 use Rattle.fault.specs.declared.Operation.TheVariants as operation
-use Rattle.fault.specs.declared.Propagator.{Propagator}
 use Rattle.fault.specs.declared.Propagator.TheVariants as propagator
 use Rattle.store.specs.Contents.{Contents}
 use Rattle.context.specs.Contexts.{Context, child_of}
@@ -18,7 +16,7 @@ use Rattle.propagation.specs.Faulted.{faulted}
 use Rattle.propagation.specs.Settings.{Left, w3c_names, datadog_names, unset_all}
 use Rattle.w3c_extract.specs.Reads.{w3c_told}
 use Rattle.w3c_inject.specs.Writes.{w3c_inject}
-use Rattle.datadog_extract.specs.Reads.{Shown, datadog_told, shown_headers}
+use Rattle.datadog_extract.specs.Reads.{datadog_told, shown_headers}
 use Rattle.datadog_inject.specs.Writes.{Injected, datadog_inject}
 use Rattle.datadog_inject.specs.declared.answer.TagsAnswer.{TagsAnswer}
 use Rattle.relay.specs.declared.calls.Answer.{Answer}

@@ -1,5 +1,5 @@
 -- A tracestate list, written: its members, and then their text. Assumes nothing.
-use Rattle.std.specs.Prelude.{ℕ, Bool, true, false, cond, not, ◌&&◌, ◌||◌, List, [], ◌∷◌, ◌++◌, take, Some, None, codes, Option}
+use Rattle.std.specs.Prelude.{ℕ, Bool, false, cond, not, ◌&&◌, ◌||◌, List, [], ◌∷◌, ◌++◌, take, Some, None, codes, Option}
 use Rattle.std.specs.Str.{bytes_eq}
 use Rattle.text.specs.Laws.{joined_by}
 use Rattle.text.specs.Splits.{pieces}

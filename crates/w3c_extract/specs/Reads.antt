@@ -1,5 +1,5 @@
 -- What the W3C headers say to an extract. Assumes nothing.
-use Rattle.std.specs.Prelude.{ℕ, Bool, true, false, cond, not, ◌&&◌, ◌||◌, List, [], ◌∷◌, ◌++◌, map, ℤ, Some, None, Ok, Err, codes, Option, Result}
+use Rattle.std.specs.Prelude.{ℕ, Bool, cond, not, ◌&&◌, ◌||◌, List, [], ◌∷◌, ◌++◌, map, ℤ, Some, None, Ok, Err, codes, Option, Result}
 use Rattle.byte_classes.specs.Sets.{tilde}
 use Rattle.text.specs.Texts.{replaced}
 use Rattle.text.specs.Trims.{trimmed}

@@ -1,5 +1,5 @@
 -- What a W3C inject of a context sets, and when it is refused. Assumes nothing.
-use Rattle.std.specs.Prelude.{ℕ, Bool, cond, ◌||◌, List, [], ◌∷◌, Some, None, Option, ◌==◌, nat_lt}
+use Rattle.std.specs.Prelude.{ℕ, cond, ◌||◌, List, [], ◌∷◌, Some, None, Option, ◌==◌, nat_lt}
 use Rattle.trace.specs.Traces.{is_zero}
 use Rattle.traceparent.specs.Writes.{traceparent_text}
 use Rattle.carrier.specs.Kinds.{Kind}

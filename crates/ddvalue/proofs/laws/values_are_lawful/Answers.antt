@@ -1,4 +1,3 @@
-use Rattle.std.proofs.Common.{codes}
 use Rattle.ddvalue.specs.Values.{last_parent}
 use Rattle.ddvalue.proofs.DdLawful.{is_value_lem, short, begins, last_parents}
 use Rattle.ddvalue.proofs.laws.values_are_lawful.Goals as goal
