@@ -42,9 +42,9 @@ module _ (p : Option ℤ) (o : Option (List ℕ)) (d : List ℕ) (ts : List Tag)
   pub begins : take 2 (dd_text p o d ts) ≡ codes "s:"
   begins = ap (take 2) (text_is p o d ts)
 
-  pub is_value_lem : priority_fits p ≡ true → all hex d ≡ true → is_value (dd_text p o d ts) ≡ true
+  pub are_values : priority_fits p ≡ true → all hex d ≡ true → is_value (dd_text p o d ts) ≡ true
   unfolding is_value
-  is_value_lem h k =
+  are_values h k =
       let first = first-item p o d ts in
       let others = other_items p o d ts in
       let text : List ℕ = item_text first ++ trail others in

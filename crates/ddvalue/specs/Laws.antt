@@ -60,7 +60,7 @@ dd_items priority origin digits ts =
 
 -- every value of a priority from -128 to 127 and 16 digits is a lawful tracestate value of at most 255 bytes
 pub record LawfulValues : Type 0 where
-  pub is_value_lem : (p : Option ℤ) (o : Option (List ℕ)) (d : List ℕ) (ts : List Tag) → priority_fits p ≡ true → Digits d → is_value (dd_text p o d ts) ≡ true
+  pub are_values : (p : Option ℤ) (o : Option (List ℕ)) (d : List ℕ) (ts : List Tag) → priority_fits p ≡ true → Digits d → is_value (dd_text p o d ts) ≡ true
   pub short : (p : Option ℤ) (o : Option (List ℕ)) (d : List ℕ) (ts : List Tag) → priority_fits p ≡ true → length (dd_text p o d ts) ≤ 255
   pub begins : (p : Option ℤ) (o : Option (List ℕ)) (d : List ℕ) (ts : List Tag) → take 2 (dd_text p o d ts) ≡ codes "s:"
   -- so is that of a context
