@@ -1,7 +1,7 @@
-mod Bounds
+mod Folding
 pub mod Listing
 mod Looks
-mod Passing
+pub mod Roads
 pub mod Runs
 mod Sweeps
 pub mod Taking

@@ -1,6 +1,5 @@
 -- The machine's run over a text, against the lines that the text begins with: it accepts exactly the blocks. Assumes nothing.
-use Rattle.std.proofs.Common.{◌≡◌, ℕ, zero, suc, ◌+◌, ◌-◌, ◌<◌, ◌≤◌, Bool, true, false, cond, ◌&&◌, eqb, ltb, leb, List, [], ◌∷◌, ◌++◌, length, get_or, drop, Some, None, Option, sym, refl, ap, ◌∙◌, arith}
-use Rattle.std.proofs.lemmas.List.{at_drop_more}
+use Rattle.std.proofs.Common.{◌≡◌, ℕ, zero, suc, ◌+◌, ◌-◌, ◌<◌, ◌≤◌, Bool, true, false, cond, ◌&&◌, eqb, ltb, leb, List, [], ◌∷◌, ◌++◌, length, Some, None, Option, sym, refl, ap, ◌∙◌, arith}
 use Rattle.std.proofs.lemmas.Bool.{both_ways, and_right, le-leb}
 use Rattle.std.proofs.lemmas.Bool.Decides.{nat_tests}
 use Rattle.std.specs.Option.{option_map}
@@ -8,13 +7,15 @@ use Rattle.std.specs.Str.{bytes_eq}
 use Rattle.byte_classes.specs.Sets.{text, name}
 use Rattle.text.specs.Splits.{after, split_once}
 use Rattle.text.specs.Takes.{taken_char}
-use Rattle.text.specs.Texts.{all, lawful}
+use Rattle.std.specs.List.{list_all}
+use Rattle.text.specs.Texts.{lawful}
 use Rattle.carrier.specs.Names.{is_name}
 use Rattle.block.specs.Laws.{MachineAccepts}
 use Rattle.block.specs.Lines.{Line, line, line_text, block_text, bind, taken_line, lines_of, well_formed}
 use Rattle.block.specs.Machine.{step, run, start, accepts}
 use Rattle.block.specs.declared.machine.State.{State}
 use Rattle.block.specs.declared.machine.State.TheVariants.{Name, Blank, Value, LineEnd}
+use Rattle.block.proofs.Folding.{steps_over}
 use Rattle.block.proofs.Taking.{line_is, no_colon, no_return}
 use Rattle.block.proofs.Walks.{none_taken, lines_none, lines_more, taken_shorter}
 
@@ -22,9 +23,13 @@ use Rattle.block.proofs.Walks.{none_taken, lines_none, lines_more, taken_shorter
 abbrev acc : State → List ℕ → Bool
 acc q s = accepts (run q s)
 
--- the run from place i on, by its first step
-pub run_more : (q : State) (s : List ℕ) (i : ℕ) (o : Option State) → i < length s → o ≡ step q (get_or s i 0) → run q (drop i s) ≡ bind o (λ next. run next (drop (i + 1) s))
-run_more q s i o h e = at_drop_more (run q) s i 0 h ∙ ap (λ p. bind p (λ next. run next (drop (i + 1) s))) (sym e)
+-- the run is a step at each byte until one fails
+pub run_is : (q : State) (s : List ℕ) → steps_over step q s ≡ run q s
+run_is q [] = refl
+run_is q (b ∷ bs) = by (step q b) (λ next. run_is next bs) where
+  by : (o : Option State) → ((next : State) → steps_over step next bs ≡ run next bs) → bind o (λ next. steps_over step next bs) ≡ bind o (λ next. run next bs)
+  by None same = refl
+  by (Some next) same = same next
 
 abbrev Parts : Type 0
 Parts = Option (List ℕ × List ℕ)
@@ -32,7 +37,7 @@ Parts = Option (List ℕ × List ℕ)
 -- at most m bytes that pass the test p, in front of what G accepts
 abbrev counts : (ℕ → Bool) → ℕ → (List ℕ → Bool) → Parts → Bool
 counts p m G None = false
-counts p m G (Some q) = (all p q.0 && leb (length q.0) m) && G q.1
+counts p m G (Some q) = (list_all p q.0 && leb (length q.0) m) && G q.1
 
 -- A state that counts bytes that pass the test p, at most m of them, until the byte c comes. From n counted bytes on the machine accepts
 -- what F says, and after c what G says.
@@ -56,7 +61,7 @@ module _ (p : ℕ → Bool) (c m : ℕ) (F : ℕ → List ℕ → Bool) (G : Lis
 
     full : (n b : ℕ) (o : Parts) → m ≤ n → false ≡ left n (option_map (after b) o)
     full n b None h = refl
-    full n b (Some q) h = rw (fits_none n (length q.0) h, and_right (p b && all p q.0) false refl)
+    full n b (Some q) h = rw (fits_none n (length q.0) h, and_right (p b && list_all p q.0) false refl)
 
     more : (n b : ℕ) (o : Parts) → p b ≡ true → n < m → left (n + 1) o ≡ left n (option_map (after b) o)
     more n b None e h = refl
@@ -133,7 +138,7 @@ unfolding lawful
 value-goes n t = value-counts t ∙ by (split_once 0x0D t) where
   by : (o : Parts) → counts text 16384 (acc LineEnd) o ≡ goes (bind o (λ b. cond (lawful b.0) (ended (line n b.0) b.1) None))
   by None = refl
-  by (Some q) = gated (all text q.0) (leb (length q.0) 16384) (acc LineEnd q.1) (ended (line n q.0) q.1) (end_goes (line n q.0) q.1)
+  by (Some q) = gated (list_all text q.0) (leb (length q.0) 16384) (acc LineEnd q.1) (ended (line n q.0) q.1) (end_goes (line n q.0) q.1)
 
 blank-goes : (n t : List ℕ) → acc Blank t ≡ goes (spaced n t)
 blank-goes n [] = refl
@@ -142,7 +147,7 @@ blank-goes n (b ∷ bs) = by (eqb b 0x20) where
   by true = value-goes n bs
   by false = refl
 
-begun_name : (b : ℕ) (k : List ℕ) → name b ≡ true → is_name (b ∷ k) ≡ (leb (length k) 63 && all name k)
+begun_name : (b : ℕ) (k : List ℕ) → name b ≡ true → is_name (b ∷ k) ≡ (leb (length k) 63 && list_all name k)
 unfolding is_name
 begun_name b k e =
     let some : ltb 0 (suc (length k)) ≡ true = grind (arith, nat_tests) in
@@ -159,7 +164,7 @@ named o = bind o (λ a. cond (is_name a.0) (spaced a.0 a.1) None)
 name-goes : (b : ℕ) (o : Parts) → name b ≡ true → counts name 63 (acc Blank) o ≡ goes (named (option_map (after b) o))
 name-goes b None e = refl
 name-goes b (Some q) e =
-    gated (all name q.0) (leb (length q.0) 63) (acc Blank q.1) (spaced (b ∷ q.0) q.1) (blank-goes (b ∷ q.0) q.1)
+    gated (list_all name q.0) (leb (length q.0) 63) (acc Blank q.1) (spaced (b ∷ q.0) q.1) (blank-goes (b ∷ q.0) q.1)
     ∙ ap (λ t. goes (cond t (spaced (b ∷ q.0) q.1) None)) (sym (begun_name b q.0 e))
 
 name_stops : (b : ℕ) (o : Parts) → name b ≡ false → false ≡ goes (named (option_map (after b) o))

@@ -1,12 +1,13 @@
 -- A line and its text: a text begins with a line exactly where the line is taken from it. Assumes nothing.
-use Rattle.std.proofs.Common.{◌≡◌, ℕ, ◌+◌, Bool, true, false, cond, not, eqb, ltb, leb, List, [], ◌∷◌, ◌++◌, length, Some, None, Option, sym, refl, ap, ◌∙◌, append_assoc, arith, length-append}
-use Rattle.std.proofs.lemmas.Bool.{and_parts, and_from, eqb-true}
+use Rattle.std.proofs.Common.{◌≡◌, ℕ, ◌+◌, ◌≤◌, Bool, true, false, cond, not, eqb, ltb, leb, List, [], ◌∷◌, ◌++◌, length, Some, None, Option, sym, refl, ap, ◌∙◌, append_assoc, arith, length-append}
+use Rattle.std.proofs.lemmas.Bool.{and_parts, and_from, eqb-true, leb-true}
 use Rattle.std.proofs.lemmas.Bool.Decides.{nat_tests}
 use Rattle.byte_classes.specs.Sets.{text, name}
 use Rattle.text.specs.Laws.{Lacks}
 use Rattle.text.specs.Splits.{other, split_once}
 use Rattle.text.specs.Takes.{taken_char}
-use Rattle.text.specs.Texts.{all, lawful}
+use Rattle.std.specs.List.{list_all}
+use Rattle.text.specs.Texts.{lawful}
 use Rattle.text.proofs.Splitting.{split_found, split_parts}
 use Rattle.carrier.specs.Names.{is_name}
 use Rattle.block.specs.Laws.{LineIs, LineOnly}
@@ -14,18 +15,18 @@ use Rattle.block.specs.Lines.{Line, line, lawful_line, line_text, bind, taken_li
 
 -- what a chain of takers went through
 pub bind-some : {X Y : Type 0} (o : Option X) (f : X → Option Y) (y : Y) → bind o f ≡ Some y → (x : X) × (o ≡ Some x) × (f x ≡ Some y)
-bind-some None f y e = let z : ◌≡◌ {A = ℕ} 0 1 = cc in absurd (omega arith)
+bind-some None f y e = absurd (cc)
 bind-some (Some x) f y e = (x, refl, e)
 
 pub cond-some : {Y : Type 0} (t : Bool) (o : Option Y) (y : Y) → cond t o None ≡ Some y → (t ≡ true) × (o ≡ Some y)
 cond-some true o y e = (refl, e)
-cond-some false o y e = let z : ◌≡◌ {A = ℕ} 0 1 = cc in absurd (omega arith)
+cond-some false o y e = absurd (cc)
 
 pub some_same : {X : Type 0} (x y : X) → Some x ≡ Some y → x ≡ y
 some_same x y e = cc
 
 char_taken : (c : ℕ) (s rest : List ℕ) → taken_char c s ≡ Some rest → s ≡ c ∷ rest
-char_taken c [] rest e = let z : ◌≡◌ {A = ℕ} 0 1 = cc in absurd (omega arith)
+char_taken c [] rest e = absurd (cc)
 char_taken c (b ∷ bs) rest e = let h = cond-some (eqb b c) (Some bs) rest e in let same = eqb-true b c h.0 in cc
 
 -- the text of a line with its ends apart
@@ -57,9 +58,9 @@ line_is s l rest e =
     }
 
 -- a test that follows from another at each byte
-all_weaker : (p q : ℕ → Bool) → ((b : ℕ) → p b ≡ true → q b ≡ true) → (s : List ℕ) → all p s ≡ true → all q s ≡ true
+all_weaker : (p q : ℕ → Bool) → ((b : ℕ) → p b ≡ true → q b ≡ true) → (s : List ℕ) → list_all p s ≡ true → list_all q s ≡ true
 all_weaker p q h [] e = refl
-all_weaker p q h (b ∷ bs) e = let parts = and_parts (p b) (all p bs) e in and_from (q b) (all q bs) (h b parts.0) (all_weaker p q h bs parts.1)
+all_weaker p q h (b ∷ bs) e = let parts = and_parts (p b) (list_all p bs) e in and_from (q b) (list_all q bs) (h b parts.0) (all_weaker p q h bs parts.1)
 
 -- no name byte is a colon, and no byte of lawful text a CR
 pub no_colon : (b : ℕ) → name b ≡ true → eqb b 0x3A ≡ false
@@ -70,13 +71,13 @@ pub no_return : (b : ℕ) → text b ≡ true → eqb b 0x0D ≡ false
 unfolding text
 no_return b e = grind (arith, nat_tests)
 
-pub name-bytes : (n : List ℕ) → is_name n ≡ true → all name n ≡ true
+pub name-bytes : (n : List ℕ) → is_name n ≡ true → list_all name n ≡ true
 unfolding is_name
-name-bytes n e = (and_parts (leb (length n) 64) (all name n) (and_parts (ltb 0 (length n)) _ e).1).1
+name-bytes n e = (and_parts (leb (length n) 64) (list_all name n) (and_parts (ltb 0 (length n)) _ e).1).1
 
-pub text-bytes : (v : List ℕ) → lawful v ≡ true → all text v ≡ true
+pub text-bytes : (v : List ℕ) → lawful v ≡ true → list_all text v ≡ true
 unfolding lawful
-text-bytes v e = (and_parts (leb (length v) 16384) (all text v) e).1
+text-bytes v e = (and_parts (leb (length v) 16384) (list_all text v) e).1
 
 pub line-found : (l : Line) (rest : List ℕ) → lawful_line l ≡ true → taken_line (line_text l ++ rest) ≡ Some (l, rest)
 unfolding lawful_line
@@ -95,3 +96,10 @@ line_only s l rest h = ap taken_line h.whole ∙ line-found l rest h.is_lawful
 pub line-length : (l : Line) → length (line_text l) ≡ length l.name + length l.value + 4
 unfolding line_text
 line-length l = simp length-append (omega arith)
+
+-- a lawful line is short
+pub line-short : (n v : List ℕ) → lawful_line (line n v) ≡ true → (length n ≤ 64) × (length v ≤ 16384)
+unfolding lawful_line is_name lawful
+line-short n v e =
+    let parts = and_parts (is_name n) (lawful v) e in
+    (leb-true (length n) 64 (and_parts (leb (length n) 64) _ (and_parts (ltb 0 (length n)) _ parts.0).1).0, leb-true (length v) 16384 (and_parts (leb (length v) 16384) _ parts.1).0)

@@ -1,5 +1,6 @@
 -- What a block of lines shows, takes and leaves. Assumes nothing.
-use Rattle.std.specs.Prelude.{ℕ, ◌+◌, min, Bool, false, cond, ◌&&◌, ◌||◌, List, [], ◌∷◌, ◌++◌, length, take, Some, None, Option, nat_le}
+use Rattle.std.specs.Prelude.{ℕ, ◌+◌, min, Bool, cond, not, ◌&&◌, List, [], ◌∷◌, ◌++◌, length, take, Some, None, Option, nat_le, filter}
+use Rattle.std.specs.List.{list_any}
 use Rattle.std.specs.Str.{bytes_eq}
 use Rattle.carrier.specs.Names.{is_name}
 use Rattle.block.specs.Lines.{Line, line, lawful_line, block_text, lines_of, well_formed}
@@ -20,8 +21,7 @@ shown_in (l ∷ ls) n = cond (lawful_line l && bytes_eq l.name n) (Some l.value)
 
 -- the lines of other names
 abbrev pub without : List ℕ → List Line → List Line
-without n [] = []
-without n (l ∷ ls) = cond (bytes_eq l.name n) (without n ls) (l ∷ without n ls)
+without n = filter (λ l. not (bytes_eq l.name n))
 
 -- a line is as long as its name, its value and four bytes more; the lines stay within the memory and 65,536 bytes
 abbrev pub room_in : Block → List ℕ → ℕ → Bool
@@ -37,8 +37,7 @@ cut_in h n = block h.memory (without n h.lines)
 
 -- whether a line has the name
 abbrev pub named : List ℕ → List Line → Bool
-named n [] = false
-named n (l ∷ ls) = bytes_eq l.name n || named n ls
+named n = list_any (λ l. bytes_eq l.name n)
 
 -- the names of the lines that no line before has
 abbrev pub new_names : List Line → List Line → List (List ℕ)

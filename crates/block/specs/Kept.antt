@@ -1,6 +1,6 @@
 -- The laws of a block of lines: what is shown of it after a line is put or lines are cut. Assumes nothing.
-use Rattle.std.specs.Prelude.{◌≡◌, ℕ, ◌≤◌, Bool, true, false, cond, ◌&&◌, List, [], ◌∷◌, ◌++◌, length, Some, None, ◌≢◌, nat_le, refl}
-use Rattle.std.proofs.Common.{sym, ap, ◌∙◌, append-nil, arith}
+use Rattle.std.specs.Prelude.{◌≡◌, ℕ, ◌≤◌, Bool, true, false, cond, not, ◌&&◌, List, [], ◌∷◌, ◌++◌, length, Some, None, ◌≢◌, nat_le, refl}
+use Rattle.std.proofs.Common.{sym, ap, ◌∙◌, append-nil}
 use Rattle.std.proofs.lemmas.Slice.Eq.{bytes_eq-Decides}
 use Rattle.std.proofs.lemmas.Bool.{and_parts, and_from, and_right, leb-true, cond-true}
 use Rattle.std.specs.Str.{bytes_eq}
@@ -24,7 +24,7 @@ unnamed l ls n e = rw (and_right (lawful_line l) (bytes_eq l.name n) e)
 pub without_shows : (n : List ℕ) (ls more : List Line) → shown_in (without n ls ++ more) n ≡ shown_in more n
 without_shows n [] more = refl
 without_shows n (l ∷ ls) more = by (bytes_eq l.name n) refl (without_shows n ls more) where
-  by : (t : Bool) → bytes_eq l.name n ≡ t → shown_in (without n ls ++ more) n ≡ shown_in more n → shown_in (cond t (without n ls) (l ∷ without n ls) ++ more) n ≡ shown_in more n
+  by : (t : Bool) → bytes_eq l.name n ≡ t → shown_in (without n ls ++ more) n ≡ shown_in more n → shown_in (cond (not t) (l ∷ without n ls) (without n ls) ++ more) n ≡ shown_in more n
   by true e ih = ih
   by false e ih = unnamed l (without n ls ++ more) n e ∙ ih
 
@@ -32,7 +32,7 @@ without_shows n (l ∷ ls) more = by (bytes_eq l.name n) refl (without_shows n l
 pub without_keeps : (n m : List ℕ) (ls more : List Line) → (m ≢ n) → shown_in more m ≡ None → shown_in (without n ls ++ more) m ≡ shown_in ls m
 without_keeps n m [] more ne none = none
 without_keeps n m (l ∷ ls) more ne none = by (bytes_eq l.name n) refl (without_keeps n m ls more ne none) where
-  by : (t : Bool) → bytes_eq l.name n ≡ t → shown_in (without n ls ++ more) m ≡ shown_in ls m → shown_in (cond t (without n ls) (l ∷ without n ls) ++ more) m ≡ shown_in (l ∷ ls) m
+  by : (t : Bool) → bytes_eq l.name n ≡ t → shown_in (without n ls ++ more) m ≡ shown_in ls m → shown_in (cond (not t) (l ∷ without n ls) (without n ls) ++ more) m ≡ shown_in (l ∷ ls) m
   by true e ih = ih ∙ sym (unnamed l ls m (same_apart l.name m n ne e))
   by false e ih = ap (λ o. cond (lawful_line l && bytes_eq l.name m) (Some l.value) o) ih
 
@@ -57,18 +57,16 @@ cut_shows h n = ap (λ ls. shown_in ls n) (sym (append-nil (without n h.lines)))
 pub cut_keeps : (h : Block) (n m : List ℕ) → (m ≢ n) → shown_in (cut_in h n).lines m ≡ shown_in h.lines m
 cut_keeps h n m ne = ap (λ ls. shown_in ls m) (sym (append-nil (without n h.lines))) ∙ without_keeps n m h.lines [] ne refl
 
-some_same : (x y : List ℕ) → Some x ≡ Some y → x ≡ y
-some_same x y e = cc
-
 shown_in_lawful : (ls : List Line) (n v : List ℕ) → shown_in ls n ≡ Some v → Lawful n v
 unfolding lawful_line
-shown_in_lawful [] n v e = let z : ◌≡◌ {A = ℕ} 0 1 = cc in absurd (omega arith)
+shown_in_lawful [] n v e = absurd (cc)
 shown_in_lawful (l ∷ ls) n v e = by (lawful_line l && bytes_eq l.name n) refl e (shown_in_lawful ls n v) where
   by : (t : Bool) → (lawful_line l && bytes_eq l.name n) ≡ t → cond t (Some l.value) (shown_in ls n) ≡ Some v → (shown_in ls n ≡ Some v → Lawful n v) → Lawful n v
   by true f g ih =
       let parts = and_parts (lawful_line l) (bytes_eq l.name n) f in
       let good = and_parts (is_name l.name) (lawful l.value) parts.0 in
-      record { name = ap is_name (sym ((bytes_eq-Decides l.name n).0 parts.1)) ∙ good.0; value = ap lawful (sym (some_same l.value v g)) ∙ good.1 }
+      let same : l.value ≡ v = cc in
+      record { name = ap is_name (sym ((bytes_eq-Decides l.name n).0 parts.1)) ∙ good.0; value = ap lawful (sym same) ∙ good.1 }
   by false f g ih = ih g
 
 pub shown_lawful : (h : Block) (n v : List ℕ) → shown_in h.lines n ≡ Some v → Lawful n v

@@ -1,5 +1,5 @@
-pub mod Answers
 pub mod Blocks
+pub mod Edits
 pub mod Kept
 pub mod Kind
 pub mod Laws
@@ -7,4 +7,4 @@ pub mod Lines
 pub mod Machine
 pub mod Openings
 pub mod Parts
-pub mod Spans
+pub mod Refusals

@@ -1,5 +1,6 @@
 -- Lines, the text that they make up, and the lines that any bytes begin with. Assumes nothing.
-use Rattle.std.specs.Prelude.{ℕ, zero, suc, Bool, true, cond, ◌&&◌, List, [], ◌∷◌, ◌++◌, length, Some, None, Option, nat_le}
+use Rattle.std.specs.Prelude.{ℕ, zero, suc, Bool, cond, ◌&&◌, List, [], ◌∷◌, ◌++◌, length, Some, None, Option, nat_le}
+use Rattle.std.specs.List.{list_all, flat_map}
 use Rattle.std.specs.Str.{bytes_eq}
 use Rattle.text.specs.Splits.{split_once}
 use Rattle.text.specs.Takes.{taken_char}
@@ -21,8 +22,7 @@ lawful_line l = is_name l.name && lawful l.value
 
 -- lines that a block can have
 abbrev pub all_lawful : List Line → Bool
-all_lawful [] = true
-all_lawful (l ∷ ls) = lawful_line l && all_lawful ls
+all_lawful = list_all lawful_line
 
 -- name, colon, one space, value, CR, LF
 unfoldable pub line_text : Line → List ℕ
@@ -30,8 +30,7 @@ line_text l = l.name ++ (0x3A ∷ 0x20 ∷ (l.value ++ (0x0D ∷ 0x0A ∷ [])))
 
 -- the lines one after the other
 abbrev pub block_text : List Line → List ℕ
-block_text [] = []
-block_text (l ∷ ls) = line_text l ++ block_text ls
+block_text = flat_map line_text
 
 -- one taker after another: none as soon as one takes none
 abbrev pub bind : {X Y : Type 0} → Option X → (X → Option Y) → Option Y

@@ -1,7 +1,6 @@
 // The line block: headers as lines of bytes in memory, checked at opening, read and written in place.
 #![tactic(auto)]
 
-mod edit;
 pub mod faults;
 pub mod laws;
 pub mod line;

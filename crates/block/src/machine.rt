@@ -45,14 +45,9 @@ fn is_start(state: State) -> bool
 fn accepted(text: &[u8]) -> bool
     ensures { result ≡ accepts (run start text.now) }
 {
-    let mut state = State::Name(0);
-    for byte in text {
-        let Some(next) = stepped(state, *byte) else {
-            return false;
-        };
-        state = next;
-    }
-    is_start(state)
+    text.iter()
+        .try_fold(State::Name(0), |state, byte| stepped(state, *byte))
+        .is_some_and(is_start)
 }
 
 // Whether this is a block: lines from one end to the other, and not too many bytes.

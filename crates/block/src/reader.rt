@@ -1,6 +1,6 @@
 // The reading side of a line block.
-ghost use Rattle.std.specs.Prelude.{◌≡◌, IfOk, if◌then◌else◌};
-ghost use Rattle.block.specs.Answers.{refusal};
+ghost use Rattle.std.specs.Prelude.{◌≡◌, IfOk};
+ghost use Rattle.std.specs.Result.{is_ok};
 ghost use Rattle.block.specs.Blocks.{names, read_block};
 ghost use Rattle.block.specs.Kind.{blocks};
 ghost use Rattle.block.specs.Lines.{well_formed};
@@ -19,14 +19,12 @@ pub struct LineReader<'m> {
 
 impl<'m> LineReader<'m> {
     pub fn open(block: &'m [u8]) -> Result<LineReader<'m>, OpenFault>
-        ensures refuses { refusal result ≡ (if well_formed block.now then 0 else 13) }
+        ensures opens { is_ok result ≡ well_formed block.now }
         ensures holds { IfOk result (λ side. read_by side ≡ read_block block.now) }
     {
-        if is_block(block) {
-            Ok(LineReader { block })
-        } else {
-            Err(OpenFault::Malformed)
-        }
+        is_block(block)
+            .then_some(LineReader { block })
+            .ok_or(OpenFault::Malformed)
     }
 }
 

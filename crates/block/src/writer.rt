@@ -1,27 +1,31 @@
 // The writing side of a line block.
-ghost use Rattle.std.specs.Prelude.{◌≡◌, IfOk, if◌then◌else◌};
+ghost use Rattle.std.specs.Prelude.{◌≡◌, ◌+◌, ◌≤◌, min, length, take, IfOk};
+ghost use Rattle.std.specs.Result.{is_ok};
 ghost use Rattle.carrier.specs.Lents.{lent};
-ghost use Rattle.block.specs.Answers.{refusal};
 ghost use Rattle.block.specs.Blocks.{names, opens};
+ghost use Rattle.block.specs.Edits.{Whole, Pushed};
 ghost use Rattle.block.specs.Kind.{blocks};
+ghost use Rattle.block.specs.Lines.{line, line_text};
 ghost use Rattle.block.specs.Openings.{Opened, LeftBy};
 ghost use Rattle.block.specs.Parts.{owned_by};
 
-use crate::edit::{front, has_room, remove, replace};
 use crate::faults::OpenFault;
-use crate::look::{find, name_at, name_count, whole_lines};
-use crate::machine::is_block;
+use crate::line::{MARKS, take_line};
+use crate::look::{find, name_at, name_count, others_len, whole_lines};
+use crate::machine::{MAX_BLOCK, is_block};
 use carrier::faults::SetFault;
+use carrier::names::is_name;
 use carrier::traits::{Carrier, Extractor, Injector};
+use text::check::{MAX_TEXT, is_lawful};
 
 // Whether the first bytes of the memory are a block.
 fn is_opened(memory: &[u8], len: usize) -> bool
     ensures { result ≡ opens memory.now len }
 {
-    len <= memory.len() && is_block(&memory[0..len])
+    memory.get(..len).is_some_and(is_block)
 }
 
-// Reads and writes headers in the block at the front of a lent memory.
+// Reads and writes headers in the block at the front of a memory. The memory is lent, so how much of it is the block stands beside it.
 #[derive(Drop)]
 pub struct LineBlock<'m> {
     memory: &'m mut [u8],
@@ -31,21 +35,69 @@ pub struct LineBlock<'m> {
 impl<'m> LineBlock<'m> {
     // The block is the first `len` bytes; those after it are free.
     pub fn open(memory: &'m mut [u8], len: usize) -> Result<LineBlock<'m>, OpenFault>
-        ensures refuses { refusal result ≡ (if opens memory.old len then 0 else 13) }
+        ensures opens { is_ok result ≡ opens memory.old len }
         ensures opened { IfOk result (Opened memory.entry len) }
     {
-        if is_opened(memory, len) {
-            Ok(LineBlock { memory, len })
-        } else {
-            Err(OpenFault::Malformed)
-        }
+        is_opened(memory, len)
+            .then_some(LineBlock { memory, len })
+            .ok_or(OpenFault::Malformed)
     }
 
     // The bytes of the block, for a reading side or to be sent.
     pub fn block(&self) -> &[u8]
         ensures { LeftBy (owned_by self.now).own result.now }
     {
-        whole_lines(front(self.memory, self.len))
+        whole_lines(self.front())
+    }
+
+    // The bytes that count: those of the block, as far as the memory and the limit go.
+    fn front(&self) -> &[u8]
+        ensures { result.now ≡ take (min self.now.len 65536) self.now.memory.now }
+    {
+        let end = self.len.min(MAX_BLOCK).min(self.memory.len());
+        &self.memory[..end]
+    }
+
+    // Moves the lines of other names together at the front: the block is these.
+    fn drop_lines(&mut self, name: &[u8])
+        ensures cut { owned_by self.new ≡ (lent blocks).cut (owned_by self.old) name.now }
+        ensures whole { Whole self.new }
+    {
+        let end = self.front().len();
+        let memory = &mut *self.memory;
+        let mut at = 0;
+        let mut kept = 0;
+        // No iterator: each turn writes to the memory that the next line is read from.
+        while let Some(line) = take_line(&memory[at..end]) {
+            let len = line.len();
+            if line.name != name {
+                memory.copy_within(at..at + len, kept);
+                kept += len;
+            }
+            at += len;
+        }
+        self.len = kept;
+    }
+
+    // Adds the bytes at the end.
+    fn push(&mut self, bytes: &[u8])
+        requires { self.old.len + length bytes.now ≤ length self.old.memory.now }
+        ensures { Pushed self.old self.new bytes.now }
+    {
+        let end = self.len + bytes.len();
+        self.memory[self.len..end].copy_from_slice(bytes);
+        self.len = end;
+    }
+
+    // Adds the line at the end.
+    fn push_line(&mut self, name: &[u8], value: &[u8])
+        requires { self.old.len + (length name.now + length value.now + 4) ≤ length self.old.memory.now }
+        ensures { Pushed self.old self.new (line_text (line name.now value.now)) }
+    {
+        self.push(name);
+        self.push(b": ");
+        self.push(value);
+        self.push(b"\r\n");
     }
 }
 
@@ -55,35 +107,45 @@ impl<'m> Carrier for LineBlock<'m> {
     ghost held = { λ s. owned_by s };
 }
 
+// As in the reader. Each body is one call: a trait that both sides shared would have more lines than these.
 impl<'m> Extractor for LineBlock<'m> {
     ghost order = { λ s. names (owned_by s).own.lines };
 
     fn get<'a>(&'a self, name: &[u8]) -> Option<&'a [u8]> {
-        find(front(self.memory, self.len), name)
+        find(self.front(), name)
     }
 
     fn key_count(&self) -> usize {
-        name_count(front(self.memory, self.len))
+        name_count(self.front())
     }
 
     fn key_at(&self, at: usize) -> Option<&[u8]> {
-        name_at(front(self.memory, self.len), at)
+        name_at(self.front(), at)
     }
 }
 
 impl<'m> Injector for LineBlock<'m> {
     fn takes(&self, name: &[u8], len: usize) -> bool {
-        has_room(self.memory, self.len, name, len)
+        is_name(name)
+            && len <= MAX_TEXT
+            && others_len(self.front(), name) + (name.len() + len + MARKS)
+                <= self.memory.len().min(MAX_BLOCK)
     }
 
     fn set(&mut self, name: &[u8], value: &[u8]) -> Result<(), SetFault> {
-        let len = self.len;
-        self.len = replace(self.memory, len, name, value)?;
+        // This test opens every carrier's set: a function for it would be a line shorter.
+        if !is_name(name) || !is_lawful(value) {
+            return Err(SetFault::Unlawful);
+        }
+        if !self.takes(name, value.len()) {
+            return Err(SetFault::Full);
+        }
+        self.drop_lines(name);
+        self.push_line(name, value);
         Ok(())
     }
 
     fn unset(&mut self, name: &[u8]) {
-        let len = self.len;
-        self.len = remove(self.memory, len, name);
+        self.drop_lines(name)
     }
 }

@@ -2,25 +2,33 @@
 ghost use Rattle.std.specs.Prelude.{◌≡◌};
 ghost use Rattle.byte_classes.specs.Classes.{bit, member};
 
-// A set of bytes that the rules name. docs/HEADERS.md has them in words, specs/Sets.antt as definitions.
+// A set of bytes that the rules name, with the bit by which the table marks its members. docs/HEADERS.md has them in words, specs/Sets.antt as definitions.
 #[derive(Clone, Copy)]
 pub enum Class {
-    Text,
-    Blank,
-    Space,
-    Digit,
-    Hex,
-    AnyHex,
-    Name,
-    LetterOrDigit,
-    TracestateKey,
-    TracestateValue,
-    TagKeyReplaced,
-    TagValueReplaced,
-    DatadogKey,
-    DatadogValue,
-    Equals,
-    Tilde,
+    Text = 0x0001,
+    Blank = 0x0002,
+    Space = 0x0004,
+    Digit = 0x0008,
+    Hex = 0x0010,
+    AnyHex = 0x0020,
+    Name = 0x0040,
+    LetterOrDigit = 0x0080,
+    TracestateKey = 0x0100,
+    TracestateValue = 0x0200,
+    TagKeyReplaced = 0x0400,
+    TagValueReplaced = 0x0800,
+    DatadogKey = 0x1000,
+    DatadogValue = 0x2000,
+    Equals = 0x4000,
+    Tilde = 0x8000,
+}
+
+impl Class {
+    const fn bit(self) -> u32
+        ensures { result ≡ bit self }
+    {
+        self as u32
+    }
 }
 
 // The mask of each byte: one bit for each class that it is in.
@@ -49,33 +57,9 @@ const CLASSES: [u32; 256] = [
     0x0c00, 0x0c00, 0x0c00, 0x0c00,
 ];
 
-// The bit by which the table marks the members of a class.
-const fn mask(class: Class) -> u32
-    ensures { result ≡ bit class }
-{
-    match class {
-        Class::Text => 0x0001,
-        Class::Blank => 0x0002,
-        Class::Space => 0x0004,
-        Class::Digit => 0x0008,
-        Class::Hex => 0x0010,
-        Class::AnyHex => 0x0020,
-        Class::Name => 0x0040,
-        Class::LetterOrDigit => 0x0080,
-        Class::TracestateKey => 0x0100,
-        Class::TracestateValue => 0x0200,
-        Class::TagKeyReplaced => 0x0400,
-        Class::TagValueReplaced => 0x0800,
-        Class::DatadogKey => 0x1000,
-        Class::DatadogValue => 0x2000,
-        Class::Equals => 0x4000,
-        Class::Tilde => 0x8000,
-    }
-}
-
 // Whether the byte is in the class.
 pub fn is_in(b: u8, class: Class) -> bool
     ensures { result ≡ member class b }
 {
-    CLASSES[b as usize] & mask(class) != 0
+    CLASSES[b as usize] & class.bit() != 0
 }

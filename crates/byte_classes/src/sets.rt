@@ -4,7 +4,8 @@ ghost use Rattle.byte_classes.specs.Sets.{text, blank, space, digit, hex, any_he
 
 use crate::class::{Class, is_in};
 
-// A test of one byte.
+// A test of one byte: the one-function interface with an implementation for each set, which is the project's form. A constant of the set
+// read by one function of the trait would be longer: a ghost constant and a law in every set, since no default can cite another member.
 pub trait ByteTest {
     ghost holds: { ℕ → Bool };
 

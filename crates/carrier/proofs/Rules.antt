@@ -1,5 +1,5 @@
 -- Every kind keeps the rules. Assumes nothing.
-use Rattle.std.proofs.Common.{◌≡◌, ℕ, Bool, true, false, cond, ◌&&◌, List, length, Ok, Err, refl, arith}
+use Rattle.std.proofs.Common.{◌≡◌, ℕ, Bool, true, false, cond, ◌&&◌, List, length, Ok, Err, refl}
 use Rattle.std.proofs.lemmas.Bool.{and_from, and_left, and_right, and_parts}
 use Rattle.text.specs.Texts.{lawful}
 use Rattle.carrier.specs.declared.faults.SetFault.{SetFault}
@@ -11,14 +11,14 @@ use Rattle.carrier.specs.Steps.{may, verdict}
 
 -- an accepted set was lawful and had room
 accepted : (a b : Bool) → verdict a b ≡ Ok tt → (a ≡ true) × (b ≡ true)
-accepted false b e = let z : ◌≡◌ {A = ℕ} 0 1 = cc in absurd (omega arith)
-accepted true false e = let z : ◌≡◌ {A = ℕ} 0 1 = cc in absurd (omega arith)
+accepted false b e = absurd (cc)
+accepted true false e = absurd (cc)
 accepted true true e = (refl, refl)
 
 refused : {A : Type 0} (a b : Bool) (f : SetFault) (x y : A) → verdict a b ≡ Err f → cond (a && b) x y ≡ y
 refused false b f x y e = refl
 refused true false f x y e = refl
-refused true true f x y e = let z : ◌≡◌ {A = ℕ} 0 1 = cc in absurd (omega arith)
+refused true true f x y e = absurd (cc)
 
 pub keeps_the_rules : (K : Kind) → KeepsTheRules K
 keeps_the_rules K = record {

@@ -1,12 +1,12 @@
 -- Names, lists of names, and tables from names to values. Assumes nothing.
 use Rattle.std.specs.Prelude.{◌≡◌, ℕ, Bool, true, false, not, ◌&&◌, ◌||◌, List, [], ◌∷◌, length, is_some, Option, nat_le, nat_lt}
+use Rattle.std.specs.List.{list_all}
 use Rattle.std.specs.Str.{bytes_eq}
 use Rattle.byte_classes.specs.Sets.{name}
-use Rattle.text.specs.Texts.{all}
 
 -- a name has 1 to 64 name bytes
 unfoldable pub is_name : List ℕ → Bool
-is_name n = nat_lt 0 (length n) && (nat_le (length n) 64 && all name n)
+is_name n = nat_lt 0 (length n) && (nat_le (length n) 64 && list_all name n)
 
 -- what each name shows
 abbrev pub Table : Type 0

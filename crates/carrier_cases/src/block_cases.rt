@@ -5,17 +5,13 @@ use carrier::faults::SetFault;
 use carrier::traits::*;
 use std::alloc::{AllocError, Global};
 use std::test::Fail;
-use text::check::same;
 
 fn opens(block: &[u8]) -> bool {
     LineReader::open(block).is_ok()
 }
 
 fn shows(side: &impl Extractor, name: &[u8], value: &[u8]) -> bool {
-    match side.get(name) {
-        Some(shown) => same(shown, value),
-        None => false,
-    }
+    side.get(name).is_some_and(|shown| shown == value)
 }
 
 #[test]
@@ -83,8 +79,8 @@ fn first_line_counts(rt: HostRuntime) -> Result<(), Fail> {
     assert!(rt; shows(&side, b"b", b"2"));
     assert_eq!(rt; side.get(b"c"), None);
     assert_eq!(rt; side.key_count(), 2);
-    assert!(rt; same(side.key_at(0).ok_or("first")?, b"a"));
-    assert!(rt; same(side.key_at(1).ok_or("second")?, b"b"));
+    assert_eq!(rt; side.key_at(0), Some(b"a".as_slice()));
+    assert_eq!(rt; side.key_at(1), Some(b"b".as_slice()));
     assert_eq!(rt; side.key_at(2), None);
     Ok(())
 }
@@ -99,10 +95,10 @@ fn exactly_full(rt: HostRuntime) -> Result<(), Fail> {
     assert_eq!(rt; side.set(b"a", b"12"), Err(SetFault::Full));
     assert_eq!(rt; side.set(b"c", b""), Err(SetFault::Full));
     assert_eq!(rt; side.set(b"a", b"3"), Ok(()));
-    assert!(rt; same(side.block(), b"b: 2\r\na: 3\r\n"));
+    assert_eq!(rt; side.block(), b"b: 2\r\na: 3\r\n".as_slice());
     assert!(rt; opens(side.block()));
     side.unset(b"b");
-    assert!(rt; same(side.block(), b"a: 3\r\n"));
+    assert_eq!(rt; side.block(), b"a: 3\r\n".as_slice());
     Ok(())
 }
 

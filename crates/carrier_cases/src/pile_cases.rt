@@ -7,7 +7,6 @@ use prefix::prefixes::Prefix;
 use queue::open_queue;
 use slots::table::*;
 use std::test::Fail;
-use text::check::same;
 
 #[test]
 fn prefixes(rt: HostRuntime) {
@@ -37,12 +36,12 @@ fn queue(rt: HostRuntime) -> Result<(), Fail> {
     let mut memory = vec![in rt.alloc(); 0; 64]?;
     let mut side = open_queue(&mut memory, 0)?;
     assert_eq!(rt; side.set(b"a", b"1"), Ok(()));
-    assert!(rt; same(side.below.block(), b"job-a: 1\r\n"));
+    assert_eq!(rt; side.below.block(), b"job-a: 1\r\n".as_slice());
     assert_eq!(rt; side.below.set(b"b", b"2"), Ok(()));
     assert_eq!(rt; side.get(b"b"), None);
     assert_eq!(rt; side.key_count(), 1);
-    assert!(rt; same(side.key_at(0).ok_or("first")?, b"a"));
+    assert_eq!(rt; side.key_at(0).ok_or("first")?, b"a".as_slice());
     side.unset(b"a");
-    assert!(rt; same(side.below.block(), b"b: 2\r\n"));
+    assert_eq!(rt; side.below.block(), b"b: 2\r\n".as_slice());
     Ok(())
 }

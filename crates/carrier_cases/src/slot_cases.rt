@@ -3,7 +3,6 @@ use carrier::faults::SetFault;
 use carrier::traits::*;
 use slots::table::*;
 use std::test::Fail;
-use text::check::same;
 
 #[test]
 fn sixteen_names(rt: HostRuntime) -> Result<(), Fail> {
@@ -17,8 +16,8 @@ fn sixteen_names(rt: HostRuntime) -> Result<(), Fail> {
     table.unset(b"c");
     assert_eq!(rt; table.get(b"c"), None);
     assert_eq!(rt; table.set(b"q", b"3"), Ok(()));
-    assert!(rt; same(table.get(b"q").ok_or("q")?, b"3"));
-    assert!(rt; same(table.key_at(2).ok_or("third slot")?, b"q"));
+    assert_eq!(rt; table.get(b"q").ok_or("q")?, b"3".as_slice());
+    assert_eq!(rt; table.key_at(2).ok_or("third slot")?, b"q".as_slice());
     Ok(())
 }
 
@@ -29,7 +28,7 @@ fn longest_values(rt: HostRuntime) -> Result<(), Fail> {
     let longer = vec![in rt.alloc(); b'v'; 1025]?;
     assert_eq!(rt; table.set(b"a", &longest), Ok(()));
     assert_eq!(rt; table.set(b"a", &longer), Err(SetFault::Full));
-    assert!(rt; same(table.get(b"a").ok_or("a")?, &longest));
+    assert_eq!(rt; table.get(b"a").ok_or("a")?, &longest[..]);
     assert_eq!(rt; table.set(b"", b"1"), Err(SetFault::Unlawful));
     assert_eq!(rt; table.set(b"b", b"\x00"), Err(SetFault::Unlawful));
     assert!(rt; !table.takes(b"a:", 1));

@@ -1,7 +1,6 @@
 // Numbers as text, at their limits and one past.
 use number::read::*;
 use number::write::*;
-use text::check::same;
 use trace::mechanism::*;
 use trace::priority::*;
 
@@ -18,12 +17,10 @@ fn numbers_of_64_bits(rt: HostRuntime) {
     assert_eq!(rt; read_u64(b"+007"), Some(7));
     assert_eq!(rt; read_u64(b"-0"), None);
     assert_eq!(rt; read_u64(b"1 "), None);
-    assert!(rt; same(decimal_u64(0).text(), b"0"));
-    assert!(rt;
-        same(
-            decimal_u64(18446744073709551615).text(),
-            b"18446744073709551615",
-        )
+    assert_eq!(rt; decimal_text(0u64).as_slice(), b"0".as_slice());
+    assert_eq!(rt;
+        decimal_text(18446744073709551615u64).as_slice(),
+        b"18446744073709551615".as_slice()
     );
 }
 
@@ -36,15 +33,15 @@ fn small_numbers(rt: HostRuntime) {
     assert_eq!(rt; read_i8(b"-0"), Some(0));
     assert_eq!(rt; read_i8(b"+-1"), None);
     assert_eq!(rt; read_i8(b"-"), None);
-    assert!(rt; same(decimal_i8(-128).text(), b"-128"));
-    assert!(rt; same(decimal_i8(127).text(), b"127"));
+    assert_eq!(rt; decimal_text(-128i8).as_slice(), b"-128".as_slice());
+    assert_eq!(rt; decimal_text(127i8).as_slice(), b"127".as_slice());
 }
 
 // Every small number is written and read back.
 #[test]
 fn small_numbers_there_and_back(rt: HostRuntime) {
     for n in -128..=127i8 {
-        assert_eq!(rt; read_i8(decimal_i8(n).text()), Some(n));
+        assert_eq!(rt; read_i8(decimal_text(n).as_slice()), Some(n));
     }
 }
 
@@ -57,25 +54,28 @@ fn mechanisms(rt: HostRuntime) {
     assert_eq!(rt; read_mechanism(b"3"), None);
     assert_eq!(rt; read_mechanism(b"-+3"), None);
     assert_eq!(rt; read_mechanism(b"-"), None);
-    assert!(rt; same(mechanism_text(0).text(), b"-0"));
-    assert!(rt; same(SamplingMechanism { value: 4 }.text().text(), b"-4"));
+    assert_eq!(rt; mechanism_text(0).as_slice(), b"-0".as_slice());
+    assert_eq!(rt;
+        SamplingMechanism { value: 4 }.text().as_slice(),
+        b"-4".as_slice()
+    );
 }
 
 #[test]
 fn hexadecimal_numbers(rt: HostRuntime) {
     assert_eq!(rt;
-        read_hex_u64(b"ffffffffffffffff"),
+        read_hex(b"ffffffffffffffff", 16),
         Some(18446744073709551615)
     );
-    assert_eq!(rt; read_hex_u64(b"00000000000000b7"), Some(183));
-    assert_eq!(rt; read_hex_u64(b"0000000000000b7"), None);
-    assert_eq!(rt; read_hex_u64(b"00000000000000B7"), None);
-    assert_eq!(rt; read_hex_u8(b"ff"), Some(255));
-    assert_eq!(rt; read_hex_u8(b"f"), None);
+    assert_eq!(rt; read_hex(b"00000000000000b7", 16), Some(183));
+    assert_eq!(rt; read_hex(b"0000000000000b7", 16), None);
+    assert_eq!(rt; read_hex(b"00000000000000B7", 16), None);
+    assert_eq!(rt; read_hex(b"ff", 2), Some(255));
+    assert_eq!(rt; read_hex(b"f", 2), None);
     assert_eq!(rt; read_hex(b"8", 1), Some(8));
     assert_eq!(rt; read_hex(b"", 0), None);
-    assert!(rt; same(&hex_u64(183), b"00000000000000b7"));
-    assert!(rt; same(&hex_u8(10), b"0a"));
+    assert_eq!(rt; hex_text::<16>(183), *b"00000000000000b7");
+    assert_eq!(rt; hex_text::<2>(10), *b"0a");
 }
 
 #[test]
@@ -93,7 +93,7 @@ fn constants(rt: HostRuntime) {
     assert_eq!(rt; AUTO_KEEP.value, 1);
     assert_eq!(rt; USER_KEEP.value, 2);
     assert_eq!(rt; DEFAULT.value, 0);
-    assert!(rt; same(SAMPLING_DECISION_MAKER_TAG_KEY, b"_dd.p.dm"));
+    assert_eq!(rt; SAMPLING_DECISION_MAKER_TAG_KEY, b"_dd.p.dm".as_slice());
 }
 
 #[test]
@@ -102,5 +102,8 @@ fn priorities(rt: HostRuntime) {
     assert!(rt; !is_kept(SamplingPriority::from_text(b"-1")));
     assert!(rt; !is_kept(SamplingPriority::from_text(b"0")));
     assert!(rt; is_kept(SamplingPriority::from_text(b"1")));
-    assert!(rt; same(SamplingPriority { value: -1 }.text().text(), b"-1"));
+    assert_eq!(rt;
+        SamplingPriority { value: -1 }.text().as_slice(),
+        b"-1".as_slice()
+    );
 }

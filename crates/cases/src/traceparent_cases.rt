@@ -1,33 +1,27 @@
 // traceparent: the example of the rules and its variants.
+use refusal::Refusal;
 use std::test::Fail;
-use text::check::same;
 use trace::ids::TraceId;
 use traceparent::read::*;
 use traceparent::write::traceparent_text;
 
 fn read(text: &[u8]) -> u8 {
-    match read_header(text) {
-        Ok(_) => 0,
-        Err(fault) => fault.number(),
-    }
+    read_header(text).map_or_else(|fault| fault.number(), |_| 0)
 }
 
 fn priority(text: &[u8]) -> Option<i8> {
-    match extract_traceparent(text) {
-        Ok(told) => Some(told.sampling_priority.value),
-        Err(_) => None,
-    }
+    extract_traceparent(text)
+        .map(|told| told.sampling_priority.value)
+        .ok()
 }
 
 #[test]
 fn written_and_read(rt: HostRuntime) -> Result<(), Fail> {
     let id = TraceId { high: 1, low: 10 };
     let text = traceparent_text(id, 183, true);
-    assert!(rt;
-        same(
-            &text,
-            b"00-0000000000000001000000000000000a-00000000000000b7-01",
-        )
+    assert_eq!(rt;
+        text,
+        *b"00-0000000000000001000000000000000a-00000000000000b7-01"
     );
     let told = extract_traceparent(&text)?;
     assert_eq!(rt; told.trace_id.high, 1);

@@ -1,6 +1,5 @@
 // tracestate lists and dd values.
 use std::test::Fail;
-use text::check::same;
 use tracestate::items::*;
 use tracestate::member::*;
 use tracestate::read::*;
@@ -38,16 +37,16 @@ fn values(rt: HostRuntime) {
 #[test]
 fn dd_and_ot(rt: HostRuntime) -> Result<(), Fail> {
     let read = read_tracestate(b"dd=s:1,ot=x,dd= s:2;o:a;t.a:1;t.b:2;t.a:3 ").ok_or("a list")?;
-    assert!(rt; same(read.ot.ok_or("ot")?, b"x"));
+    assert!(rt; read.ot == Some(b"x"));
     let value = read.dd.ok_or("dd")?;
     let dd = read_dd(value);
-    assert!(rt; same(dd.priority.ok_or("s")?, b"2") && same(dd.origin.ok_or("o")?, b"a"));
+    assert!(rt; dd.priority == Some(b"2") && dd.origin == Some(b"a"));
     assert!(rt; dd.last_parent.is_none());
     let mut tags = DdTags::new(value);
     let tag = tags.next().ok_or("first tag")?;
-    assert!(rt; same(tag.key, b"b") && same(tag.value, b"2"));
+    assert!(rt; tag.key == b"b".as_slice() && tag.value == b"2".as_slice());
     let tag = tags.next().ok_or("second tag")?;
-    assert!(rt; same(tag.key, b"a") && same(tag.value, b"3"));
+    assert!(rt; tag.key == b"a".as_slice() && tag.value == b"3".as_slice());
     assert!(rt; tags.next().is_none());
     Ok(())
 }

@@ -1,12 +1,12 @@
 -- What a context is to its caller. Assumes nothing.
-use Rattle.std.specs.Prelude.{ℕ, Bool, false, ◌&&◌, List, ℤ, Some, None, codes, Option}
-use Rattle.std.specs.Option.{option_map}
+use Rattle.std.specs.Prelude.{ℕ, Bool, false, ◌&&◌, List, ℤ, codes, Option}
+use Rattle.std.specs.Option.{option_and_then, option_map}
 use Rattle.store.specs.Contents.{Contents}
 use Rattle.store.specs.Stores.{held}
 use Rattle.store.specs.Tags.{looked}
 use Rattle.trace.specs.Traces.{level, maker, keeps_if}
 use Rattle.trace.specs.declared.ids.TraceId.{TraceId}
-use Rattle.tracestate.specs.Lists.{Found, read_tracestate}
+use Rattle.tracestate.specs.Lists.{read_tracestate}
 use Rattle.context.specs.Ranges.{ids_fit, priority_fits, mechanism_fits}
 use Rattle.context.specs.declared.sampling.OtSource.{OtSource}
 use Rattle.context.specs.declared.sampling.OtSource.TheVariants.{Given, Carried}
@@ -51,18 +51,13 @@ abbrev pub carried : Context → Option (List ℕ)
 carried c = tag (codes "tracestate") c
 
 -- the ot value that reading a list gives
-abbrev pub ot_found : Option Found → Option (List ℕ)
-ot_found None = None
-ot_found (Some f) = f.ot
-
-abbrev pub ot_read : Option (List ℕ) → Option (List ℕ)
-ot_read None = None
-ot_read (Some list) = ot_found (read_tracestate list)
+abbrev pub ot_read : List ℕ → Option (List ℕ)
+ot_read list = option_and_then (λ f. f.ot) (read_tracestate list)
 
 -- the ot value: the given one, or the one that reading the carried list gives
 abbrev pub ot_by : OtSource → Context → Option (List ℕ)
 ot_by Given c = c.store.ot
-ot_by Carried c = ot_read (carried c)
+ot_by Carried c = option_and_then ot_read (carried c)
 
 unfoldable pub ot_of : Context → Option (List ℕ)
 ot_of c = ot_by c.ot_source c

@@ -16,7 +16,7 @@ use tracestate::read::read_tracestate;
 pub const TRACESTATE_TAG: &[u8] = b"tracestate";
 
 impl SpanContext {
-    // A context of these ids, this sampling and what the store holds; its ot value is the store's.
+    // A context of these ids, this sampling and what the store holds; its ot value is the store's. Five values: each is a field of its own.
     pub fn new(
         trace_id: TraceId,
         span_id: u64,
@@ -51,6 +51,7 @@ impl SpanContext {
     }
 
     // The ot value.
+    #[tactic(auto, unfolding(crate::specs::Contexts::ot_of))]
     pub fn ot(&self) -> Option<&[u8]>
         ensures { option_map (λ x. x.now) result ≡ ot_of (context_of self.now) }
     {

@@ -1,6 +1,6 @@
 -- What the five Datadog headers say to an extract. Assumes nothing.
 use Rattle.std.specs.Prelude.{ℕ, Bool, false, cond, List, [], ◌∷◌, ◌++◌, map, length, ℤ, pos, is_some, Some, None, Ok, Err, codes, Option, Result, ◌==◌, int_le, nat_lt}
-use Rattle.std.specs.Option.{unwrap_or}
+use Rattle.std.specs.Option.{option_and_then, option_map_or, option_to_list, unwrap_or}
 use Rattle.text.specs.Splits.{pieces, split_once}
 use Rattle.text.specs.Takes.{stripped}
 use Rattle.number.specs.Numbers.{number64, small, tid}
@@ -57,8 +57,7 @@ tid_check (Some v) = cond (well_formed v) [] (error (codes "malformed_tid " ++ v
 
 -- a decision maker is a small number of at most 0, or the tag becomes an error
 abbrev pub is_decision : Option ℤ → Bool
-is_decision None = false
-is_decision (Some z) = int_le z (pos 0)
+is_decision number = option_map_or (λ z. int_le z (pos 0)) number false
 
 abbrev pub decision_check : Option (List ℕ) → List Change
 decision_check None = []
@@ -75,30 +74,23 @@ unfoldable pub tags_fill : ℕ → List ℕ → List Change
 tags_fill limit text = cond (nat_lt limit (length text)) (error (too_long limit) ∷ []) (pairs_fill (tag_pairs text))
 
 abbrev pub origin_fill : Option (List ℕ) → List Change
-origin_fill None = []
-origin_fill (Some o) = origin o ∷ []
+origin_fill value = map origin (option_to_list value)
 
 abbrev pub fill : ℕ → Shown → List Change
 fill limit s = origin_fill s.origin ++ tags_fill limit (unwrap_or s.tags [])
 
 -- the high half is the tid of the tags header, 0 if it has none or one that is malformed
 abbrev pub tid_in : Option (List ℕ) → ℕ
-tid_in None = 0
-tid_in (Some v) = unwrap_or (tid v) 0
+tid_in value = unwrap_or (option_and_then tid value) 0
 
 unfoldable pub high_half : ℕ → List ℕ → ℕ
 high_half limit text = cond (nat_lt limit (length text)) 0 (tid_in (last_value (codes "_dd.p.tid") (tag_pairs text)))
 
--- a header's value as a number, if it is shown and readable
-abbrev pub read_by : {N : Type 0} → (List ℕ → Option N) → Option (List ℕ) → Option N
-read_by f None = None
-read_by f (Some v) = f v
-
 abbrev pub told_at : ℕ → ℕ → Shown → Told
 told_at limit low s = record {
   trace = record { high = high_half limit (unwrap_or s.tags []); low = low };
-  span = unwrap_or (read_by number64 s.parent) 0;
-  priority = read_by small s.priority;
+  span = unwrap_or (option_and_then number64 s.parent) 0;
+  priority = option_and_then small s.priority;
   fill = fill limit s;
 }
 

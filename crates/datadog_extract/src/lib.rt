@@ -1,2 +1,2 @@
-// The Datadog form, read.
+// The Datadog form, read: definitions, no code yet.
 #![tactic(auto)]

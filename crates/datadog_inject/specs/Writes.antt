@@ -1,21 +1,21 @@
 -- What a Datadog inject of a context puts and sets, and what it answers. Assumes nothing.
 use Rattle.std.specs.Prelude.{ℕ, Bool, cond, not, ◌&&◌, List, [], ◌∷◌, ◌++◌, map, length, ℤ, is_some, Some, None, Ok, Err, codes, filter, Option, Result, ◌==◌, nat_lt}
+use Rattle.std.specs.List.{list_all}
 use Rattle.byte_classes.specs.Sets.{datadog_key, datadog_value}
 use Rattle.text.specs.Laws.{joined_by}
 use Rattle.text.specs.Takes.{stripped}
-use Rattle.text.specs.Texts.{all}
 use Rattle.number.specs.Numbers.{decimal_text, hex_text, mechanism_text, small_text}
 use Rattle.trace.specs.declared.ids.TraceId.{TraceId}
 use Rattle.carrier.specs.Kinds.{Kind}
+use Rattle.fault.specs.Faults.{store_cause}
 use Rattle.fault.specs.declared.Cause.{Cause}
 use Rattle.fault.specs.declared.Cause.TheVariants as cause
 use Rattle.fault.specs.declared.Header.TheVariants as header
 use Rattle.store.specs.declared.faults.StoreFault.{StoreFault}
 use Rattle.store.specs.Contents.{Contents}
-use Rattle.store.specs.Tags.{Tag, every}
+use Rattle.store.specs.Tags.{Tag}
 use Rattle.context.specs.Contexts.{Context, with_store}
 use Rattle.propagation.specs.Changes.{Change, put, remove, changes}
-use Rattle.propagation.specs.Extracts.{store_cause}
 use Rattle.propagation.specs.Settings.{Setting, setting, datadog_names, unset_all, set_all}
 use Rattle.datadog_inject.specs.Answers.{word}
 use Rattle.datadog_inject.specs.declared.answer.TagsAnswer.{TagsAnswer}
@@ -48,14 +48,14 @@ tags_text ts = joined_by 0x2C (map tag_text (sent_tags ts))
 
 -- what the header can hold
 abbrev pub encodable : Tag → Bool
-encodable t = all datadog_key t.0 && all datadog_value t.1
+encodable t = list_all datadog_key t.0 && list_all datadog_value t.1
 
 -- what is answered, by the limit and the tags
 unfoldable pub tags_answer : ℕ → List Tag → TagsAnswer
 tags_answer limit ts =
     cond (limit == 0) tags.Disabled
     (cond (nat_lt limit (length (tags_text ts))) tags.InjectMaxSize
-    (cond (not (every encodable (sent_tags ts))) tags.EncodingError
+    (cond (not (list_all encodable (sent_tags ts))) tags.EncodingError
     (cond (length (sent_tags ts) == 0) tags.NothingToSend tags.Sent)))
 
 -- the headers in their order

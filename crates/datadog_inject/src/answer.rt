@@ -14,20 +14,19 @@ pub enum TagsAnswer {
 }
 
 impl TagsAnswer {
-    // Its number.
+    // Its number: each answer has one, as refusals have.
     pub fn number(self) -> u8
         ensures { result ≡ number self }
     {
         self as u8
     }
 
-    // The word that is put as the error tag's value, if there is an error.
+    // No `Display`: two answers have no word, and tags are bytes. The word that is put as the error tag's value, if there is an error.
     pub fn word(self) -> Option<&'static [u8]>
         ensures { option_map (λ x. x.now) result ≡ word self }
     {
         match self {
-            TagsAnswer::Sent => None,
-            TagsAnswer::NothingToSend => None,
+            TagsAnswer::Sent | TagsAnswer::NothingToSend => None,
             TagsAnswer::Disabled => Some(b"disabled"),
             TagsAnswer::InjectMaxSize => Some(b"inject_max_size"),
             TagsAnswer::EncodingError => Some(b"encoding_error"),

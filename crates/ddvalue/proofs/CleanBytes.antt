@@ -1,13 +1,19 @@
 -- The bytes of what is written: clean ones, which writing and reading once more keep. Assumes nothing.
-use Rattle.std.proofs.Common.{◌≡◌, ℕ, zero, suc, Bool, true, not, ◌&&◌, List, [], ◌∷◌, map, reverse, take, sym, refl, ap, ◌∙◌, append-nil, arith}
+use Rattle.std.proofs.Common.{◌≡◌, ℕ, Bool, true, not, ◌&&◌, List, [], ◌∷◌, map, reverse, take, drop, sym, refl, ap, ◌∙◌, append-nil, arith}
 use mathlib.Core.List.{reverse-reverse}
-use Rattle.std.proofs.lemmas.Bool.{and_parts, and_from}
+use Rattle.std.proofs.lemmas.Bool.{and_parts}
+use Rattle.std.proofs.lemmas.List.{take-append-drop}
+use Rattle.std.proofs.lemmas.List.Elements.{All-weaker}
+use Rattle.std.proofs.lemmas.List.Folds.{list_all-append, list_all-map}
+use Rattle.std.proofs.lemmas.List.Sums.{AllPass-from_list_all, list_all-from_AllPass}
+use Rattle.std.proofs.lemmas.Simd.{map-map}
 use Rattle.std.proofs.lemmas.Bool.Decides.{nat_tests}
-use Rattle.byte_classes.specs.Sets.{blank, space, digit, hex, tracestate_value, tag_key_replaced, tag_value_replaced, equals, tilde}
+use Rattle.byte_classes.specs.Sets.{blank, space, hex, tracestate_value, tag_key_replaced, tag_value_replaced, equals, tilde}
 use Rattle.text.proofs.Trimming.{back_mirrored, front-passes, back_off}
 use Rattle.text.specs.Laws.{bare}
 use Rattle.text.specs.Splits.{other}
-use Rattle.text.specs.Texts.{all, replaced}
+use Rattle.std.specs.List.{list_all}
+use Rattle.text.specs.Texts.{replaced}
 use Rattle.text.specs.Trims.{without_front, without_back}
 use Rattle.w3c_extract.specs.Reads.{decoded}
 use Rattle.ddvalue.specs.Values.{written_key, written_value}
@@ -20,22 +26,18 @@ abbrev pub clean_value : ℕ → Bool
 clean_value b = tracestate_value b && other 0x3B b
 
 -- tests of every byte
-pub all_weaker : (p q : ℕ → Bool) → ((b : ℕ) → p b ≡ true → q b ≡ true) → (s : List ℕ) → all p s ≡ true → all q s ≡ true
-all_weaker p q h [] e = refl
-all_weaker p q h (b ∷ bs) e = let parts = and_parts (p b) (all p bs) e in and_from (q b) (all q bs) (h b parts.0) (all_weaker p q h bs parts.1)
+pub all_weaker : (p q : ℕ → Bool) → ((b : ℕ) → p b ≡ true → q b ≡ true) → (s : List ℕ) → list_all p s ≡ true → list_all q s ≡ true
+all_weaker p q h s e = list_all-from_AllPass q s (All-weaker (λ b. p b ≡ true) (λ b. q b ≡ true) h s (AllPass-from_list_all p s e))
 
-all_map : (q : ℕ → Bool) (f : ℕ → ℕ) → ((b : ℕ) → q (f b) ≡ true) → (s : List ℕ) → all q (map f s) ≡ true
-all_map q f h [] = refl
-all_map q f h (b ∷ bs) = and_from (q (f b)) (all q (map f bs)) (h b) (all_map q f h bs)
+all_map : (q : ℕ → Bool) (f : ℕ → ℕ) → ((b : ℕ) → q (f b) ≡ true) → (s : List ℕ) → list_all q (map f s) ≡ true
+all_map q f h s = list_all-map q f s ∙ list_all-from_AllPass (λ b. q (f b)) s (λ k d l. h _)
 
-all_take : (p : ℕ → Bool) (n : ℕ) (s : List ℕ) → all p s ≡ true → all p (take n s) ≡ true
-all_take p zero s e = refl
-all_take p (suc n) [] e = refl
-all_take p (suc n) (b ∷ bs) e = let parts = and_parts (p b) (all p bs) e in and_from (p b) (all p (take n bs)) parts.0 (all_take p n bs parts.1)
+all_take : (p : ℕ → Bool) (n : ℕ) (s : List ℕ) → list_all p s ≡ true → list_all p (take n s) ≡ true
+all_take p n s e = (and_parts _ _ (sym (list_all-append p (take n s) (drop n s)) ∙ ap (list_all p) (take-append-drop n s) ∙ e)).0
 
-map-kept : (f : ℕ → ℕ) (p : ℕ → Bool) → ((b : ℕ) → p b ≡ true → f b ≡ b) → (s : List ℕ) → all p s ≡ true → map f s ≡ s
+map-kept : (f : ℕ → ℕ) (p : ℕ → Bool) → ((b : ℕ) → p b ≡ true → f b ≡ b) → (s : List ℕ) → list_all p s ≡ true → map f s ≡ s
 map-kept f p h [] e = refl
-map-kept f p h (b ∷ bs) e = let parts = and_parts (p b) (all p bs) e in (λ i. h b parts.0 i ∷ map-kept f p h bs parts.1 i)
+map-kept f p h (b ∷ bs) e = let parts = and_parts (p b) (list_all p bs) e in (λ i. h b parts.0 i ∷ map-kept f p h bs parts.1 i)
 
 -- a byte of a key
 key_byte : (b : ℕ) → clean_key (replaced tag_key_replaced 0x5F b) ≡ true
@@ -59,11 +61,11 @@ unfolding tracestate_value tag_value_replaced equals tilde
 value-kept b h = grind (arith, nat_tests)
 
 -- a key as it is written
-pub clean_key_lem : (k : List ℕ) → all clean_key (written_key k) ≡ true
+pub clean_key_lem : (k : List ℕ) → list_all clean_key (written_key k) ≡ true
 unfolding written_key
 clean_key_lem k = all_map clean_key (replaced tag_key_replaced 0x5F) key_byte k
 
-pub kept-key : (k : List ℕ) → all clean_key k ≡ true → written_key k ≡ k
+pub kept-key : (k : List ℕ) → list_all clean_key k ≡ true → written_key k ≡ k
 unfolding written_key
 kept-key k h = map-kept (replaced tag_key_replaced 0x5F) clean_key key-kept k h
 
@@ -74,18 +76,14 @@ bare-back p s = ap (λ l. bare p (reverse l)) (back_mirrored p s) ∙ ap (bare p
 
 -- values: clean bytes, the last not a space
 pub record Clean (v : List ℕ) : Type 0 where
-  pub bytes : all clean_value v ≡ true
+  pub bytes : list_all clean_value v ≡ true
   pub end : bare space (reverse v) ≡ true
-
-two_maps : (f g : ℕ → ℕ) (s : List ℕ) → map f (map g s) ≡ map (λ b. f (g b)) s
-two_maps f g [] = refl
-two_maps f g (b ∷ bs) = ap (λ l. f (g b) ∷ l) (two_maps f g bs)
 
 pub clean_value_lem : (v : List ℕ) → Clean (written_value v)
 unfolding written_value without_back
 clean_value_lem v =
     let mapped : List ℕ = map (replaced equals 0x7E) (map (replaced tag_value_replaced 0x5F) v) in
-    let clean : all clean_value mapped ≡ true = ap (all clean_value) (two_maps (replaced equals 0x7E) (replaced tag_value_replaced 0x5F) v) ∙ all_map clean_value wrote value_byte v in
+    let clean : list_all clean_value mapped ≡ true = ap (list_all clean_value) (map-map (replaced equals 0x7E) (replaced tag_value_replaced 0x5F) v) ∙ all_map clean_value wrote value_byte v in
     record { bytes = all_take clean_value _ mapped clean; end = bare-back space mapped }
 
 pub kept-value : (w : List ℕ) → Clean w → written_value (decoded w) ≡ w
@@ -93,10 +91,10 @@ unfolding written_value decoded
 kept-value w c =
     let read = map (replaced tilde 0x3D) w in
     let same : map (replaced equals 0x7E) (map (replaced tag_value_replaced 0x5F) read) ≡ w =
-    two_maps (replaced equals 0x7E) (replaced tag_value_replaced 0x5F) read ∙ two_maps wrote (replaced tilde 0x3D) w ∙ map-kept (λ b. wrote (replaced tilde 0x3D b)) clean_value value-kept w c.bytes in
+    map-map (replaced equals 0x7E) (replaced tag_value_replaced 0x5F) read ∙ map-map wrote (replaced tilde 0x3D) w ∙ map-kept (λ b. wrote (replaced tilde 0x3D b)) clean_value value-kept w c.bytes in
     ap (without_back space) (same ∙ sym (append-nil w)) ∙ back_off space w [] c.end refl
 
-pub read_plain : (p : ℕ → Bool) → ((b : ℕ) → p b ≡ true → replaced tilde 0x3D b ≡ b) → (s : List ℕ) → all p s ≡ true → decoded s ≡ s
+pub read_plain : (p : ℕ → Bool) → ((b : ℕ) → p b ≡ true → replaced tilde 0x3D b ≡ b) → (s : List ℕ) → list_all p s ≡ true → decoded s ≡ s
 unfolding decoded
 read_plain p h s e = map-kept (replaced tilde 0x3D) p h s e
 
@@ -104,7 +102,7 @@ digit-plain : (b : ℕ) → hex b ≡ true → replaced tilde 0x3D b ≡ b
 unfolding hex tilde
 digit-plain b h = grind (arith, nat_tests)
 
-pub read-digits : (d : List ℕ) → all hex d ≡ true → decoded d ≡ d
+pub read-digits : (d : List ℕ) → list_all hex d ≡ true → decoded d ≡ d
 read-digits d h = read_plain hex digit-plain d h
 
 -- clean bytes are no separators, no blanks but spaces, and lawful
@@ -135,7 +133,3 @@ hex-value b h = grind (arith, nat_tests)
 pub hex_solid : (b : ℕ) → hex b ≡ true → not (space b) ≡ true
 unfolding hex space
 hex_solid b h = grind (arith, nat_tests)
-
-pub digit-hex : (b : ℕ) → digit b ≡ true → hex b ≡ true
-unfolding hex digit
-digit-hex b h = grind (arith, nat_tests)

@@ -6,19 +6,12 @@ use Rattle.std.specs.Str.{bytes_eq}
 use Rattle.text.proofs.Prefixes.{strip_is}
 use Rattle.text.specs.Takes.{stripped}
 use Rattle.number.specs.Numbers.{small_text}
+use Rattle.tracestate.proofs.Reading.{newer_assoc, newer_none}
 use Rattle.tracestate.specs.Items.{kind_of, kinded, also, has_key, standing, tag_of, tags_of, tags, of_kind, last_of, Heard, heard}
 use Rattle.tracestate.specs.Members.{Pair, newer}
 use Rattle.store.specs.Tags.{Tag}
 use Rattle.ddvalue.specs.Laws.{item, origin_said, parent_said, tags_said, item_if, tag_item, dd_items}
 use Rattle.ddvalue.specs.Values.{s_part, with_origin, untagged}
-
-newer_assoc : (a b c : Option (List ℕ)) → newer a (newer b c) ≡ newer (newer a b) c
-newer_assoc None b c = refl
-newer_assoc (Some v) b c = refl
-
-newer_none : (a : Option (List ℕ)) → newer a None ≡ a
-newer_none None = refl
-newer_none (Some v) = refl
 
 -- the last of a kind among items and others behind them
 last_append : (n : ℕ) (ps qs : List Pair) → last_of n (ps ++ qs) ≡ newer (last_of n qs) (last_of n ps)

@@ -1,10 +1,9 @@
 -- A dd value as its items, all of them clean. Assumes nothing.
 use Rattle.std.proofs.Common.{◌≡◌, ℕ, ◌-◌, Bool, true, false, cond, leb, List, [], ◌∷◌, ◌++◌, map, length, ℤ, pos, Some, None, codes, Option, unwrap_or, sym, refl, ap, ◌∙◌, append_assoc, append-nil}
 use Rattle.std.proofs.ByRecursion.{All-append}
-use Rattle.std.specs.List.{AllByRecursion}
+use Rattle.std.specs.List.{AllByRecursion, list_all}
 use Rattle.byte_classes.specs.Sets.{hex, blank, tag_key_replaced}
 use Rattle.text.proofs.Alls.{all_append as bytes_append}
-use Rattle.text.specs.Texts.{all}
 use Rattle.number.specs.Numbers.{small_text}
 use Rattle.tracestate.specs.Items.{items}
 use Rattle.tracestate.specs.Members.{Pair}
@@ -57,10 +56,10 @@ tags-trail text ts =
     added-by (there text (tags_part ts)) text (tags_part ts) (map tag_item ps) (fitting-trail 128 (propagated ts)) ∙ ap (λ qs. text ++ trail qs) (said-by (there text (tags_part ts)) ps)
 
 -- the parts that are clean
-good_one : (key v : List ℕ) → all clean_key key ≡ true → Clean v → Good (item key v)
+good_one : (key v : List ℕ) → list_all clean_key key ≡ true → Clean v → Good (item key v)
 good_one key v k c = record { key = k; value = c }
 
-good_if : (t : Bool) (key v : List ℕ) → all clean_key key ≡ true → Clean v → AllByRecursion Good (item_if key (cond t (Some v) None))
+good_if : (t : Bool) (key v : List ℕ) → list_all clean_key key ≡ true → Clean v → AllByRecursion Good (item_if key (cond t (Some v) None))
 good_if true key v k c = (good_one key v k c, tt)
 good_if false key v k c = tt
 
@@ -69,7 +68,7 @@ unfolding tag_key_replaced
 good_origin text None = tt
 good_origin text (Some o) = good_if (there text (codes ";o:" ++ written_value o)) (codes "o") (written_value o) refl (clean_value_lem o)
 
-good_parent : (text d : List ℕ) → all hex d ≡ true → AllByRecursion Good (item_if (codes "p") (parent_said text d))
+good_parent : (text d : List ℕ) → list_all hex d ≡ true → AllByRecursion Good (item_if (codes "p") (parent_said text d))
 unfolding tag_key_replaced
 good_parent text d h = good_if (there text (codes ";p:" ++ d)) (codes "p") d refl (clean_digits d h)
 
@@ -113,7 +112,7 @@ module _ (p : Option ℤ) (o : Option (List ℕ)) (d : List ℕ) (ts : List Tag)
       ∙ ap (λ l. s ++ (trail a ++ l)) (sym (trail_append b c))
       ∙ ap (λ l. s ++ l) (sym (trail_append a (b ++ c)))
 
-  module _ (h : priority_fits p ≡ true) (k : all hex d ≡ true) where
+  module _ (h : priority_fits p ≡ true) (k : list_all hex d ≡ true) where
     pub all_good : AllByRecursion Good (first-item ∷ other_items)
     all_good = (
       good_said (unwrap_or p (pos 2)) (said_fits p h),

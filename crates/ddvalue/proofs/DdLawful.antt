@@ -1,8 +1,8 @@
 -- A dd value is a lawful tracestate value, and not too long. Assumes nothing.
-use Rattle.std.proofs.Common.{◌≡◌, ℕ, ◌-◌, ◌<◌, ◌≤◌, Bool, true, false, cond, not, ◌&&◌, eqb, ltb, leb, List, ◌++◌, length, get_or, take, ℤ, pos, Some, None, codes, Option, unwrap_or, sym, refl, ap, subst, arith}
-use Rattle.std.proofs.lemmas.Bool.{and_parts, and_from, lt-ltb, le-leb, ltb-true, eqb-true}
+use Rattle.std.proofs.Common.{◌≡◌, ℕ, ◌-◌, ◌<◌, ◌≤◌, true, not, ◌&&◌, eqb, ltb, leb, List, ◌++◌, length, get_or, take, ℤ, pos, Some, None, codes, Option, unwrap_or, sym, ap, subst, arith}
+use Rattle.std.proofs.lemmas.Bool.{cond_both, and_parts, and_from, lt-ltb, le-leb, ltb-true, eqb-true}
 use Rattle.byte_classes.specs.Sets.{hex, space, tracestate_value}
-use Rattle.text.specs.Texts.{all}
+use Rattle.std.specs.List.{list_all}
 use Rattle.number.proofs.HexText.{hex_form}
 use Rattle.number.specs.Numbers.{hex_text}
 use Rattle.tracestate.specs.Members.{is_value}
@@ -16,13 +16,9 @@ use Rattle.ddvalue.proofs.ItemTexts.{item_text, trail, last_solid, whole_solid, 
 use Rattle.ddvalue.proofs.Priorities.{said_fits, short-priority}
 
 -- no part makes a value too long
-below_by : (t : Bool) (text more : List ℕ) → ltb (length more) 256 ≡ t → length text < 256 → length (cond t more text) < 256
-below_by true text more e h = ltb-true (length more) 256 e
-below_by false text more e h = h
-
 pub added-below : (text part : List ℕ) → length text < 256 → length (added text part) < 256
 unfolding added
-added-below text part h = below_by (ltb (length (text ++ part)) 256) text (text ++ part) refl h
+added-below text part h = cond_both (ltb (length (text ++ part)) 256) (text ++ part) text (λ s. length s < 256) (λ e. ltb-true (length (text ++ part)) 256 e) (λ _. h)
 
 pub s_part-short : (p : Option ℤ) → priority_fits p ≡ true → length (s_part p) ≤ 6
 s_part-short p h = let n = short-priority (unwrap_or p (pos 2)) (said_fits p h) in omega arith
@@ -42,7 +38,7 @@ module _ (p : Option ℤ) (o : Option (List ℕ)) (d : List ℕ) (ts : List Tag)
   pub begins : take 2 (dd_text p o d ts) ≡ codes "s:"
   begins = ap (take 2) (text_is p o d ts)
 
-  pub are_values : priority_fits p ≡ true → all hex d ≡ true → is_value (dd_text p o d ts) ≡ true
+  pub are_values : priority_fits p ≡ true → list_all hex d ≡ true → is_value (dd_text p o d ts) ≡ true
   unfolding is_value
   are_values h k =
       let first = first-item p o d ts in
@@ -53,21 +49,16 @@ module _ (p : Option ℤ) (o : Option (List ℕ)) (d : List ℕ) (ts : List Tag)
       subst (λ (s : List ℕ). is_value s ≡ true) (sym (text_is p o d ts))
       (and_from (ltb 0 (length text) && leb (length text) 256) _
       (and_from (ltb 0 (length text)) (leb (length text) 256) (lt-ltb 0 (length text) (omega arith)) (le-leb (length text) 256 n))
-      (and_from (not (space (get_or text (length text - 1) 0))) (all tracestate_value text) (last_solid text (omega arith) (whole_solid first others good)) (whole-lawful first others good)))
+      (and_from (not (space (get_or text (length text - 1) 0))) (list_all tracestate_value text) (last_solid text (omega arith) (whole_solid first others good)) (whole-lawful first others good)))
 
 -- the digits of the last parent
-digits-by : (t : Bool) (v w : List ℕ) → (eqb (length v) 16 && all hex v) ≡ t → Digits w → Digits (cond t v w)
-digits-by true v w e h = let parts = and_parts (eqb (length v) 16) (all hex v) e in (eqb-true (length v) 16 parts.0, parts.1)
-digits-by false v w e h = h
-
 parent-digits : (span : ℕ) (o : Option (List ℕ)) → Digits (parent_tag span o)
 parent-digits span None = hex_form 16 span
-parent-digits span (Some v) = digits-by (eqb (length v) 16 && all hex v) v (hex_text 16 span) refl (hex_form 16 span)
-
-either : (t : Bool) (v w : List ℕ) → Digits v → Digits w → Digits (cond t v w)
-either true v w a b = a
-either false v w a b = b
+parent-digits span (Some v) =
+    cond_both (eqb (length v) 16 && list_all hex v) v (hex_text 16 span) Digits (λ e. let parts = and_parts (eqb (length v) 16) (list_all hex v) e in (eqb-true (length v) 16 parts.0, parts.1)) (λ _. hex_form 16 span)
 
 pub last_parents : (c : Context) → Digits (last_parent c)
 unfolding last_parent
-last_parents c = either c.remote (parent_tag c.span (tag (codes "_dd.parent_id") c)) (hex_text 16 c.span) (parent-digits c.span (tag (codes "_dd.parent_id") c)) (hex_form 16 c.span)
+last_parents c =
+    let said = parent_tag c.span (tag (codes "_dd.parent_id") c) in
+    cond_both c.remote said (hex_text 16 c.span) Digits (λ _. parent-digits c.span (tag (codes "_dd.parent_id") c)) (λ _. hex_form 16 c.span)

@@ -4,7 +4,7 @@ use mathlib.Core.List.{reverse-append}
 use Rattle.std.proofs.lemmas.List.{get_or-reverse}
 use Rattle.std.proofs.lemmas.Bool.{and_parts, and_from}
 use Rattle.std.proofs.lemmas.Bool.Decides.{nat_tests}
-use Rattle.std.specs.List.{AllByRecursion}
+use Rattle.std.specs.List.{AllByRecursion, list_all}
 use Rattle.std.specs.Option.{option_map}
 use Rattle.byte_classes.specs.Sets.{blank, space, tracestate_value}
 use Rattle.text.proofs.Alls.{all_append, all-reverse}
@@ -13,7 +13,6 @@ use Rattle.text.proofs.Splitting.{split_found}
 use Rattle.text.proofs.Trimming.{trim_only}
 use Rattle.text.specs.Laws.{bare, Lacks}
 use Rattle.text.specs.Splits.{other, pieces}
-use Rattle.text.specs.Texts.{all}
 use Rattle.text.specs.Trims.{trimmed}
 use Rattle.tracestate.specs.Items.{item_of, also, items_of, items}
 use Rattle.tracestate.specs.Members.{Pair, pair}
@@ -34,7 +33,7 @@ trail_append (p ∷ ps) qs = ap (λ l. 0x3B ∷ (item_text p ++ l)) (trail_appen
 
 -- an item of clean text
 pub record Good (p : Pair) : Type 0 where
-  pub key : all clean_key p.key ≡ true
+  pub key : list_all clean_key p.key ≡ true
   pub value : Clean p.value
 
 -- its bytes are no semicolons, and lawful
@@ -45,19 +44,19 @@ value-lawful : (b : ℕ) → clean_value b ≡ true → tracestate_value b ≡ t
 value-lawful b h = (and_parts (tracestate_value b) (other 0x3B b) h).0
 
 module _ (q : ℕ → Bool) (keys : (b : ℕ) → clean_key b ≡ true → q b ≡ true) (values : (b : ℕ) → clean_value b ≡ true → q b ≡ true) (colon : q 0x3A ≡ true) where
-  item-all : (p : Pair) → Good p → all q (item_text p) ≡ true
+  item-all : (p : Pair) → Good p → list_all q (item_text p) ≡ true
   item-all p g =
       all_append q p.key (0x3A ∷ p.value) (all_weaker clean_key q keys p.key g.key)
-      (and_from (q 0x3A) (all q p.value) colon (all_weaker clean_value q values p.value g.value.bytes))
+      (and_from (q 0x3A) (list_all q p.value) colon (all_weaker clean_value q values p.value g.value.bytes))
 
 lacks_semicolon : (p : Pair) → Good p → Lacks 0x3B (item_text p)
 lacks_semicolon = item-all (other 0x3B) key_semicolon value_semicolon refl
 
-item-lawful : (p : Pair) → Good p → all tracestate_value (item_text p) ≡ true
+item-lawful : (p : Pair) → Good p → list_all tracestate_value (item_text p) ≡ true
 unfolding tracestate_value
 item-lawful = item-all tracestate_value key-lawful value-lawful refl
 
-pub trail-lawful : (ps : List Pair) → AllByRecursion Good ps → all tracestate_value (trail ps) ≡ true
+pub trail-lawful : (ps : List Pair) → AllByRecursion Good ps → list_all tracestate_value (trail ps) ≡ true
 unfolding tracestate_value
 trail-lawful [] g = refl
 trail-lawful (p ∷ ps) g = all_append tracestate_value (item_text p) (trail ps) (item-lawful p g.0) (trail-lawful ps g.1)
@@ -85,9 +84,9 @@ Solid s = bare blank (reverse s) ≡ true
 solid_append : (xs ys : List ℕ) → Solid xs → Solid ys → Solid (xs ++ ys)
 solid_append xs ys a b = ap (bare blank) (reverse-append xs ys) ∙ bare-both blank (reverse ys) (reverse xs) b a
 
-solid_front : (r : List ℕ) → all clean_value r ≡ true → bare space r ≡ true → bare blank r ≡ true
+solid_front : (r : List ℕ) → list_all clean_value r ≡ true → bare space r ≡ true → bare blank r ≡ true
 solid_front [] h k = refl
-solid_front (b ∷ bs) h k = value_solid b (and_parts (clean_value b) (all clean_value bs) h).0 k
+solid_front (b ∷ bs) h k = value_solid b (and_parts (clean_value b) (list_all clean_value bs) h).0 k
 
 solid_value : (v : List ℕ) → Clean v → Solid v
 solid_value v c = solid_front (reverse v) (all-reverse clean_value v c.bytes) c.end
@@ -109,7 +108,7 @@ module _ (p : Pair) (ps : List Pair) (g : AllByRecursion Good (p ∷ ps)) where
   pub whole_solid : Solid (item_text p ++ trail ps)
   whole_solid = solid_append (item_text p) (trail ps) (solid_item p g.0) (solid_trail ps g.1)
 
-  pub whole-lawful : all tracestate_value (item_text p ++ trail ps) ≡ true
+  pub whole-lawful : list_all tracestate_value (item_text p ++ trail ps) ≡ true
   whole-lawful = all_append tracestate_value (item_text p) (trail ps) (item-lawful p g.0) (trail-lawful ps g.1)
 
   pub whole-items : bare blank (item_text p ++ trail ps) ≡ true → items (item_text p ++ trail ps) ≡ p ∷ ps

@@ -2,7 +2,7 @@
 use Rattle.std.specs.Prelude.{◌≡◌, ℕ, ◌-◌, ◌≤◌, Bool, true, cond, List, [], ◌∷◌, ◌++◌, map, length, take, ℤ, pos, Some, None, codes, Option, nat_le, nat_lt}
 use Rattle.std.specs.Option.{unwrap_or}
 use Rattle.byte_classes.specs.Sets.{hex}
-use Rattle.text.specs.Texts.{all}
+use Rattle.std.specs.List.{list_all}
 use Rattle.number.specs.Numbers.{small, small_text}
 use Rattle.tracestate.specs.Items.{items, heard, tags, standing}
 use Rattle.tracestate.specs.Members.{Pair, is_value}
@@ -14,7 +14,7 @@ use Rattle.ddvalue.specs.Values.{written_key, written_value, s_part, with_origin
 
 -- 16 lower-case hexadecimal digits
 abbrev pub Digits : List ℕ → Type 0
-Digits d = (length d ≡ 16) × (all hex d ≡ true)
+Digits d = (length d ≡ 16) × (list_all hex d ≡ true)
 
 abbrev pub item : List ℕ → List ℕ → Pair
 item key value = record { key = key; value = value }

@@ -3,7 +3,8 @@ use Rattle.std.specs.Prelude.{ℕ, ◌-◌, cond, ◌&&◌, List, [], ◌∷◌,
 use Rattle.std.specs.Option.{unwrap_or}
 use Rattle.byte_classes.specs.Sets.{equals, hex, space, tag_key_replaced, tag_value_replaced}
 use Rattle.text.specs.Takes.{stripped}
-use Rattle.text.specs.Texts.{all, replaced}
+use Rattle.std.specs.List.{list_all}
+use Rattle.text.specs.Texts.{replaced}
 use Rattle.text.specs.Trims.{without_back}
 use Rattle.number.specs.Numbers.{hex_text, small_text}
 use Rattle.store.specs.Tags.{Tag}
@@ -31,7 +32,7 @@ with_origin text (Some o) = added text (codes ";o:" ++ written_value o)
 -- the last parent: what the tag says where the context came from elsewhere and the tag has 16 digits, else the span id
 abbrev pub parent_tag : ℕ → Option (List ℕ) → List ℕ
 parent_tag span None = hex_text 16 span
-parent_tag span (Some v) = cond (length v == 16 && all hex v) v (hex_text 16 span)
+parent_tag span (Some v) = cond (length v == 16 && list_all hex v) v (hex_text 16 span)
 
 unfoldable pub last_parent : Context → List ℕ
 last_parent c = cond c.remote (parent_tag c.span (tag (codes "_dd.parent_id") c)) (hex_text 16 c.span)

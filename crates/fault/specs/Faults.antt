@@ -1,5 +1,10 @@
 -- The numbers and words of refusals. Assumes nothing.
-use Rattle.std.specs.Prelude.{ℕ, List, Some, None, codes, Option}
+use Rattle.std.specs.Prelude.{ℕ, List, ◌++◌, Some, None, codes, Option}
+use Rattle.store.specs.declared.faults.StoreFault.{StoreFault}
+use Rattle.store.specs.declared.faults.StoreFault.TheVariants as full
+use Rattle.traceparent.specs.declared.read.TraceparentFault.{TraceparentFault}
+use Rattle.traceparent.specs.declared.read.TraceparentFault.TheVariants as parent
+use Rattle.fault.specs.declared.Fault.{Fault}
 use Rattle.fault.specs.declared.Cause.{Cause}
 use Rattle.fault.specs.declared.Cause.TheVariants as cause
 use Rattle.fault.specs.declared.Header.{Header}
@@ -78,3 +83,20 @@ propagator_text propagator.Traceparent = codes "traceparent"
 propagator_text propagator.Datadog = codes "datadog"
 propagator_text propagator.Relay = codes "relay"
 propagator_text propagator.Context = codes "context"
+
+-- a fault as the original shows it
+abbrev pub fault_text : Fault → List ℕ
+fault_text f = codes "Cannot " ++ (operation_text f.operation ++ (codes " from " ++ (propagator_text f.propagator ++ (codes ", " ++ message_text f.cause))))
+
+-- the cause of a call's refusal, if a change of its store is refused
+abbrev pub store_cause : StoreFault → Cause
+store_cause full.Unlawful = cause.Unlawful
+store_cause full.Full = cause.MemoryTooSmall
+
+-- the cause of a call's refusal, if its traceparent is
+abbrev pub parent_cause : TraceparentFault → Cause
+parent_cause parent.Shape = cause.Shape
+parent_cause parent.ZeroTraceId = cause.ZeroTraceId
+parent_cause parent.ZeroSpanId = cause.ZeroSpanId
+parent_cause parent.VersionFf = cause.VersionFf
+parent_cause parent.TailAfterVersion00 = cause.TailAfterVersion00

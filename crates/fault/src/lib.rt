@@ -1,10 +1,28 @@
 // Refusals: one type for all of them, with a number, the original's words, and at a full carrier the carrier's own fault.
 #![tactic(auto)]
 
-ghost use Rattle.std.specs.Prelude.{◌≡◌};
-ghost use Rattle.fault.specs.Faults.{header_of, header_text, number, message_text, operation_text, propagator_text};
+ghost use Rattle.std.specs.Prelude.{◌≡◌, ℕ, List};
+ghost use Rattle.fault.specs.Faults.{header_of, header_text, message_text, operation_text, propagator_text};
+
+mod causes;
+mod shown;
 
 use carrier::faults::SetFault;
+
+// What stands for words.
+pub trait Worded: Sized {
+    ghost words: { Self → List ℕ };
+
+    fn text(self) -> &'static str
+        ensures { result.now ≡ words self };
+
+    // The bytes of the text.
+    final fn bytes(self) -> &'static [u8]
+        ensures { result.now ≡ words self }
+    {
+        self.text().as_bytes()
+    }
+}
 
 // Who refuses.
 #[derive(Clone, Copy, PartialEq, Eq, Debug)]
@@ -63,94 +81,73 @@ pub struct Fault {
     pub operation: Operation,
 }
 
-impl Propagator {
-    pub fn name(self) -> &'static [u8]
-        ensures { result.now ≡ propagator_text self }
-    {
+impl Worded for Propagator {
+    ghost words = { propagator_text };
+
+    fn text(self) -> &'static str {
         match self {
-            Propagator::Traceparent => b"traceparent",
-            Propagator::Datadog => b"datadog",
-            Propagator::Relay => b"relay",
-            Propagator::Context => b"context",
+            Propagator::Traceparent => "traceparent",
+            Propagator::Datadog => "datadog",
+            Propagator::Relay => "relay",
+            Propagator::Context => "context",
         }
     }
 }
 
-impl Operation {
-    pub fn name(self) -> &'static [u8]
-        ensures { result.now ≡ operation_text self }
-    {
+impl Worded for Operation {
+    ghost words = { operation_text };
+
+    fn text(self) -> &'static str {
         match self {
-            Operation::Extract => b"extract",
-            Operation::Inject => b"inject",
-            Operation::Make => b"make",
-            Operation::Child => b"child",
-            Operation::Put => b"put",
+            Operation::Extract => "extract",
+            Operation::Inject => "inject",
+            Operation::Make => "make",
+            Operation::Child => "child",
+            Operation::Put => "put",
         }
     }
 }
 
-impl Header {
-    pub fn name(self) -> &'static [u8]
-        ensures { result.now ≡ header_text self }
-    {
+impl Worded for Header {
+    ghost words = { header_text };
+
+    fn text(self) -> &'static str {
         match self {
-            Header::Traceparent => b"traceparent",
-            Header::Tracestate => b"tracestate",
-            Header::TraceId => b"x-datadog-trace-id",
-            Header::ParentId => b"x-datadog-parent-id",
-            Header::Origin => b"x-datadog-origin",
-            Header::SamplingPriority => b"x-datadog-sampling-priority",
-            Header::Tags => b"x-datadog-tags",
+            Header::Traceparent => "traceparent",
+            Header::Tracestate => "tracestate",
+            Header::TraceId => "x-datadog-trace-id",
+            Header::ParentId => "x-datadog-parent-id",
+            Header::Origin => "x-datadog-origin",
+            Header::SamplingPriority => "x-datadog-sampling-priority",
+            Header::Tags => "x-datadog-tags",
         }
     }
 }
 
-const TAIL_MESSAGE: &[u8] =
-    b"Traceparent with version `00` should contain only 4 values delimited by `-`";
+// The message: the original's where it has one.
+impl Worded for Cause {
+    ghost words = { message_text };
+
+    fn text(self) -> &'static str {
+        match self {
+            Cause::NotShown => "header not shown",
+            Cause::Shape => "invalid traceparent",
+            Cause::ZeroTraceId => "`0` value for trace_id is invalid",
+            Cause::ZeroSpanId => "`0` value for span_id is invalid",
+            Cause::VersionFf => "`ff` is an invalid traceparent version",
+            Cause::TailAfterVersion00 => TAIL_MESSAGE,
+            Cause::UnreadableTraceId => "Failed to decode `trace_id`",
+            Cause::ZeroDatadogTraceId => "Invalid `trace_id` found",
+            Cause::ZeroId => "zero id",
+            Cause::Unlawful => "unlawful text or number",
+            Cause::MemoryTooSmall => "memory too small",
+            Cause::CarrierFull { .. } => "carrier full",
+            Cause::MalformedBlock => "malformed block",
+        }
+    }
+}
 
 impl Cause {
-    pub fn number(self) -> u8
-        ensures { result ≡ number self }
-    {
-        match self {
-            Cause::NotShown => 1,
-            Cause::Shape => 2,
-            Cause::ZeroTraceId => 3,
-            Cause::ZeroSpanId => 4,
-            Cause::VersionFf => 5,
-            Cause::TailAfterVersion00 => 6,
-            Cause::UnreadableTraceId => 7,
-            Cause::ZeroDatadogTraceId => 8,
-            Cause::ZeroId => 9,
-            Cause::Unlawful => 10,
-            Cause::MemoryTooSmall => 11,
-            Cause::CarrierFull { .. } => 12,
-            Cause::MalformedBlock => 13,
-        }
-    }
-
-    // The original's message where it has one.
-    pub fn message(self) -> &'static [u8]
-        ensures { result.now ≡ message_text self }
-    {
-        match self {
-            Cause::NotShown => b"header not shown",
-            Cause::Shape => b"invalid traceparent",
-            Cause::ZeroTraceId => b"`0` value for trace_id is invalid",
-            Cause::ZeroSpanId => b"`0` value for span_id is invalid",
-            Cause::VersionFf => b"`ff` is an invalid traceparent version",
-            Cause::TailAfterVersion00 => TAIL_MESSAGE,
-            Cause::UnreadableTraceId => b"Failed to decode `trace_id`",
-            Cause::ZeroDatadogTraceId => b"Invalid `trace_id` found",
-            Cause::ZeroId => b"zero id",
-            Cause::Unlawful => b"unlawful text or number",
-            Cause::MemoryTooSmall => b"memory too small",
-            Cause::CarrierFull { .. } => b"carrier full",
-            Cause::MalformedBlock => b"malformed block",
-        }
-    }
-
     // The header that the carrier did not take.
     pub fn header(self) -> Option<Header>
         ensures { result ≡ header_of self }
@@ -161,3 +158,6 @@ impl Cause {
         }
     }
 }
+
+const TAIL_MESSAGE: &str =
+    "Traceparent with version `00` should contain only 4 values delimited by `-`";

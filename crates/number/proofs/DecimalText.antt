@@ -4,13 +4,13 @@ use Rattle.std.proofs.lemmas.Fmt.{decimal_digit, decimal_nonempty, digits_decima
 use Rattle.std.proofs.lemmas.Str.Parse.{IsNumeralModel, IsDigitsTest, FoldsDigits, numerals_by_fold}
 use Rattle.std.proofs.lemmas.Int.{ints}
 use Rattle.byte_classes.specs.Sets.{digit}
-use Rattle.text.specs.Texts.{all}
+use Rattle.std.specs.List.{list_all}
 use Rattle.number.specs.Numbers.{value_after, decimal_text, small_text, mechanism_text}
 use Rattle.number.specs.Laws.{DecimalForm, SmallForm, MechanismForm}
 use Rattle.number.proofs.Digits.{value-decimal_digit}
 use Rattle.number.proofs.Numerals.{Reads}
 
-all_tells_digits : IsDigitsTest (λ ds. all digit ds ≡ true)
+all_tells_digits : IsDigitsTest (λ ds. list_all digit ds ≡ true)
 unfolding digit
 all_tells_digits = search rules
 
@@ -18,8 +18,8 @@ value_folds : FoldsDigits (value_after 10)
 unfolding digit
 value_folds = record { empty = λ n. refl; more = λ n c cs h. ap (λ d. value_after 10 (n * 10 + d) cs) (value-decimal_digit c (search rules)) }
 
-decimal_numerals : IsNumeralModel (λ ds. all digit ds ≡ true) (value_after 10 0)
-decimal_numerals = numerals_by_fold (λ ds. all digit ds ≡ true) all_tells_digits (value_after 10) value_folds
+pub decimal_numerals : IsNumeralModel (λ ds. list_all digit ds ≡ true) (value_after 10 0)
+decimal_numerals = numerals_by_fold (λ ds. list_all digit ds ≡ true) all_tells_digits (value_after 10) value_folds
 
 pub decimal-reads : (n : ℕ) → n < 2 ^ 64 → Reads digit 10 (decimal_text n) n
 unfolding decimal_text

@@ -4,7 +4,7 @@ use lib.Arith.{digits_div, digits_mod}
 use Rattle.std.proofs.lemmas.List.{take_all, take_more, length-take-le}
 use Rattle.std.proofs.lemmas.Bool.{and_from, and_parts}
 use Rattle.byte_classes.specs.Sets.{hex}
-use Rattle.text.specs.Texts.{all}
+use Rattle.std.specs.List.{list_all}
 use Rattle.number.specs.Numbers.{digit_value, value_after, glyph, hex_text}
 use Rattle.number.specs.Laws.{HexForm}
 use Rattle.number.proofs.Digits.{value-small, value-glyph, glyph-value, glyph-hex}
@@ -16,7 +16,7 @@ length-hex_text zero n = refl
 length-hex_text (suc k) n = length-append (hex_text k (n / 16)) (glyph (n % 16) ∷ []) ∙ let e = length-hex_text k (n / 16) in omega arith
 
 -- a set with the lower-case digits has every byte of the text
-all-hex_text : (members : ℕ → Bool) → ((b : ℕ) → hex b ≡ true → members b ≡ true) → (k n : ℕ) → all members (hex_text k n) ≡ true
+all-hex_text : (members : ℕ → Bool) → ((b : ℕ) → hex b ≡ true → members b ≡ true) → (k n : ℕ) → list_all members (hex_text k n) ≡ true
 unfolding hex_text
 all-hex_text members has zero n = refl
 all-hex_text members has (suc k) n =
@@ -52,7 +52,7 @@ value-below (suc k) s e =
     let last = value-small (get_or s k 0) in
     omega (arith, ap (value_after 16 0) (front_and_last k s e) ∙ value_push 16 0 (get_or s k 0) (take k s))
 
-hex_text-value : (k : ℕ) (s : List ℕ) → length s ≡ k → all hex s ≡ true → hex_text k (value_after 16 0 s) ≡ s
+hex_text-value : (k : ℕ) (s : List ℕ) → length s ≡ k → list_all hex s ≡ true → hex_text k (value_after 16 0 s) ≡ s
 unfolding hex_text
 hex_text-value zero [] e in-set = refl
 hex_text-value zero (b ∷ bs) e in-set = absurd (omega arith)
@@ -60,7 +60,7 @@ hex_text-value (suc k) s e in-set =
     let v = value_after 16 0 (take k s) in
     let b = get_or s k 0 in
     let is : value_after 16 0 s ≡ v * 16 + digit_value b = ap (value_after 16 0) (front_and_last k s e) ∙ value_push 16 0 b (take k s) in
-    let parts = and_parts (all hex (take k s)) (hex b) (sym (all_push hex b (take k s)) ∙ ap (all hex) (sym (front_and_last k s e)) ∙ in-set) in
+    let parts = and_parts (list_all hex (take k s)) (hex b) (sym (all_push hex b (take k s)) ∙ ap (list_all hex) (sym (front_and_last k s e)) ∙ in-set) in
     let small = value-small b in
     ap (λ n. hex_text k (n / 16) ++ (glyph (n % 16) ∷ [])) is
     ∙ ap (λ q. hex_text k q ++ (glyph ((v * 16 + digit_value b) % 16) ∷ [])) (digits_div v small)

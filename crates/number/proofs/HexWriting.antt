@@ -1,6 +1,6 @@
 -- Hexadecimal text that is written from the last digit to the first. Assumes nothing.
-use Rattle.std.proofs.Common.{◌≡◌, ℕ, zero, suc, ◌+◌, ◌-◌, ◌/◌, ◌%◌, ◌<◌, ◌≤◌, List, [], ◌∷◌, ◌++◌, length, drop, set, sym, ap, ◌∙◌, append_assoc, append-nil, arith, length-set}
-use Rattle.std.proofs.lemmas.List.{drop-set, drop_all}
+use Rattle.std.proofs.Common.{◌≡◌, ℕ, zero, suc, ◌+◌, ◌-◌, ◌/◌, ◌%◌, ◌<◌, ◌≤◌, List, [], ◌∷◌, ◌++◌, length, drop, set, sym, ap, ◌∙◌, append_assoc, arith, length-set}
+use Rattle.std.proofs.lemmas.List.{drop-set}
 use Rattle.number.specs.Numbers.{glyph, hex_text}
 
 hex_text-step : (k n : ℕ) → 0 < k → hex_text k n ≡ hex_text (k - 1) (n / 16) ++ (glyph (n % 16) ∷ [])
@@ -23,6 +23,3 @@ module _ (n rest at : ℕ) (out : List ℕ) (within : at ≤ length out) (inv : 
   pub hex_end : at ≤ 0 → out ≡ hex_text (length out) n
   unfolding hex_text
   hex_end h = let z : at ≡ 0 = omega arith in sym (inv ∙ ap (λ k. hex_text k rest ++ drop k out) z)
-
-pub hex-start : (n : ℕ) (out : List ℕ) → hex_text (length out) n ≡ hex_text (length out) n ++ drop (length out) out
-hex-start n out = sym (ap (λ l. hex_text (length out) n ++ l) (drop_all (length out) out (omega arith)) ∙ append-nil (hex_text (length out) n))

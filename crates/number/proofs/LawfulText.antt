@@ -4,7 +4,8 @@ use Rattle.std.proofs.lemmas.Int.{ints}
 use Rattle.std.proofs.lemmas.Bool.{and_parts, and_from, le-leb}
 use Rattle.std.proofs.lemmas.Bool.Decides.{nat_tests}
 use Rattle.byte_classes.specs.Sets.{text, digit, hex}
-use Rattle.text.specs.Texts.{all, lawful}
+use Rattle.std.specs.List.{list_all}
+use Rattle.text.specs.Texts.{lawful}
 use Rattle.number.specs.Laws.{DecimalsLawful, SmallsLawful, MechanismsLawful, HexesLawful}
 use Rattle.number.specs.Numbers.{decimal_text, small_text, mechanism_text, hex_text}
 use Rattle.number.proofs.DecimalText.{decimal_form, small_form, mechanism_form}
@@ -19,19 +20,19 @@ unfolding hex text
 hex_text_lem b h = grind (arith, nat_tests)
 
 -- bytes of a set within lawful text
-all-text : (p : ℕ → Bool) → ((b : ℕ) → p b ≡ true → text b ≡ true) → (s : List ℕ) → all p s ≡ true → all text s ≡ true
+all-text : (p : ℕ → Bool) → ((b : ℕ) → p b ≡ true → text b ≡ true) → (s : List ℕ) → list_all p s ≡ true → list_all text s ≡ true
 all-text p in-text [] h = refl
-all-text p in-text (b ∷ bs) h = let parts = and_parts (p b) (all p bs) h in and_from (text b) (all text bs) (in-text b parts.0) (all-text p in-text bs parts.1)
+all-text p in-text (b ∷ bs) h = let parts = and_parts (p b) (list_all p bs) h in and_from (text b) (list_all text bs) (in-text b parts.0) (all-text p in-text bs parts.1)
 
-short-lawful : (s : List ℕ) → length s ≤ 16384 → all text s ≡ true → lawful s ≡ true
+short-lawful : (s : List ℕ) → length s ≤ 16384 → list_all text s ≡ true → lawful s ≡ true
 unfolding lawful
-short-lawful s short h = and_from (leb (length s) 16384) (all text s) (le-leb (length s) 16384 short) h
+short-lawful s short h = and_from (leb (length s) 16384) (list_all text s) (le-leb (length s) 16384 short) h
 
-digits-text : (n : ℕ) → n < 2 ^ 64 → all text (decimal_text n) ≡ true
+digits-text : (n : ℕ) → n < 2 ^ 64 → list_all text (decimal_text n) ≡ true
 digits-text n h = all-text digit digit-text (decimal_text n) (decimal_form n h).2
 
 -- a minus in front is lawful too
-minus-text : (n : ℕ) → n < 2 ^ 64 → all text (0x2D ∷ decimal_text n) ≡ true
+minus-text : (n : ℕ) → n < 2 ^ 64 → list_all text (0x2D ∷ decimal_text n) ≡ true
 unfolding text
 minus-text n h = digits-text n h
 

@@ -1,11 +1,11 @@
 pub mod DecimalText
-mod DecimalWriting
+pub mod Printed
 mod Digits
 pub mod HexText
 mod HexWriting
 pub mod LawfulText
 mod Numerals
+pub mod Parsing
 pub mod OnlyText
 pub mod Ranges
 pub mod ReadBack
-mod Reading

@@ -1,7 +1,9 @@
 -- The laws of numbers as text, which the contracts of the module `laws` name. Assumes nothing.
-use Rattle.std.specs.Prelude.{◌≡◌, ℕ, ◌-◌, ◌^◌, ◌<◌, ◌≤◌, true, List, length, ℤ, pos, negsuc, ◌≤ℤ◌, Some, None, codes, slice_index}
+use Rattle.std.specs.Prelude.{◌≡◌, ℕ, ◌-◌, ◌^◌, ◌<◌, ◌≤◌, true, List, length, ℤ, pos, negsuc, ◌≤ℤ◌, Some, None, codes, decimal, slice_index}
+use Rattle.std.specs.Fmt.{signed_decimal}
 use Rattle.byte_classes.specs.Sets.{digit, hex}
-use Rattle.text.specs.Texts.{all, lawful}
+use Rattle.std.specs.List.{list_all}
+use Rattle.text.specs.Texts.{lawful}
 use Rattle.number.specs.Numbers.{number64, small, mechanism, hex_number, tid, decimal_text, small_text, mechanism_text, hex_text}
 
 -- a number of 64 bits, written in decimal, reads as itself
@@ -24,11 +26,16 @@ HexesReadBack = (width n : ℕ) → 0 < width → n < 16 ^ width → n < 2 ^ 64 
 abbrev pub TidsReadBack : Type 0
 TidsReadBack = (n : ℕ) → n < 2 ^ 64 → tid (hex_text 16 n) ≡ Some n
 
+-- a decimal text is what std prints, of a number with a sign too
+pub record AsPrinted : Type 0 where
+  pub decimals : (n : ℕ) → decimal_text n ≡ decimal n
+  pub smalls : (z : ℤ) → small_text z ≡ signed_decimal z
+
 -- a decimal text has 1 to 20 bytes, all of them digits, and a zero in front only where it is `0`
 abbrev pub DecimalForm : Type 0
 DecimalForm =
     (n : ℕ) → n < 2 ^ 64 →
-    (0 < length (decimal_text n)) × (length (decimal_text n) ≤ 20) × (all digit (decimal_text n) ≡ true)
+    (0 < length (decimal_text n)) × (length (decimal_text n) ≤ 20) × (list_all digit (decimal_text n) ≡ true)
     × (slice_index (decimal_text n) 0 ≡ 0x30 → decimal_text n ≡ codes "0")
 
 -- a number from -128 to 127 has at most 4 bytes
@@ -41,7 +48,7 @@ MechanismForm = (m : ℕ) → m < 256 → length (mechanism_text m) ≤ 4
 
 -- a hexadecimal text has just the bytes asked for, all of them lower-case digits
 abbrev pub HexForm : Type 0
-HexForm = (width n : ℕ) → (length (hex_text width n) ≡ width) × (all hex (hex_text width n) ≡ true)
+HexForm = (width n : ℕ) → (length (hex_text width n) ≡ width) × (list_all hex (hex_text width n) ≡ true)
 
 -- all of them are lawful text, so that a carrier can show them
 abbrev pub DecimalsLawful : Type 0

@@ -2,8 +2,7 @@
 use Rattle.std.specs.Prelude.{ℕ, zero, suc, ◌+◌, ◌-◌, ◌*◌, ◌/◌, ◌%◌, ◌^◌, Bool, cond, ◌&&◌, List, [], ◌∷◌, ◌++◌, length, drop, ℤ, pos, negsuc, neg_ℤ, Some, None, codes, decimal, Option, ◌==◌, nat_le, nat_lt, slice_index}
 use Rattle.std.specs.Option.{option_map}
 use Rattle.byte_classes.specs.Sets.{digit, hex, any_hex}
-use Rattle.text.specs.Texts.{all}
-use Rattle.number.specs.declared.write.Decimal.{Decimal}
+use Rattle.std.specs.List.{list_all}
 
 -- the value of a hexadecimal digit in either case, and 0 at any other byte
 unfoldable pub digit_value : ℕ → ℕ
@@ -16,7 +15,7 @@ value_after base n (b ∷ bs) = value_after base (n * base + digit_value b) bs
 
 -- one digit or more, all in the set, that write a number below 2^64 in the base
 unfoldable pub numeral : (ℕ → Bool) → ℕ → List ℕ → Option ℕ
-numeral set base s = cond (nat_lt 0 (length s) && all set s && nat_lt (value_after base 0 s) (2 ^ 64)) (Some (value_after base 0 s)) None
+numeral set base s = cond (nat_lt 0 (length s) && list_all set s && nat_lt (value_after base 0 s) (2 ^ 64)) (Some (value_after base 0 s)) None
 
 -- the number, if it is at most the limit
 abbrev pub up_to : ℕ → Option ℕ → Option ℕ
@@ -34,10 +33,6 @@ minus s = slice_index s 0 == 0x2D
 -- the text without a plus that it begins with
 abbrev pub after_plus : List ℕ → List ℕ
 after_plus s = cond (plus s) (drop 1 s) s
-
--- the text after a minus, if it begins with one
-abbrev pub after_minus : List ℕ → Option (List ℕ)
-after_minus s = cond (minus s) (Some (drop 1 s)) None
 
 -- an optional plus and decimal digits, of a number below 2^64
 unfoldable pub number64 : List ℕ → Option ℕ
@@ -80,7 +75,3 @@ glyph d = cond (nat_lt d 10) (0x30 + d) (0x61 + (d - 10))
 unfoldable pub hex_text : ℕ → ℕ → List ℕ
 hex_text zero n = []
 hex_text (suc width) n = hex_text width (n / 16) ++ (glyph (n % 16) ∷ [])
-
--- the text that a `Decimal` holds
-abbrev pub decimal_bytes : Decimal → List ℕ
-decimal_bytes d = drop d.start d.bytes

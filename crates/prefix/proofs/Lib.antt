@@ -1,5 +1,3 @@
-mod Fronts
-mod Joining
 mod Listing
 mod Others
 mod Piling

@@ -1,19 +1,19 @@
 -- Prefixes, and names joined to them. Assumes nothing.
-use Rattle.std.specs.Prelude.{ℕ, ◌+◌, Bool, cond, ◌&&◌, List, ◌++◌, length, take, Some, None, Ok, Err, Option, Result, nat_le, nat_lt}
+use Rattle.std.specs.Prelude.{ℕ, ◌+◌, Bool, cond, ◌&&◌, List, ◌++◌, length, Some, None, Ok, Err, Option, Result, nat_le, nat_lt}
 use Rattle.byte_classes.specs.Sets.{name}
-use Rattle.text.specs.Texts.{all}
+use Rattle.text.specs.Inlines.{text_of}
+use Rattle.std.specs.List.{list_all}
 use Rattle.carrier.specs.Names.{is_name}
-use Rattle.prefix.specs.declared.prefixes.Joined.{Joined}
 use Rattle.prefix.specs.declared.prefixes.Prefix.{Prefix}
 use Rattle.prefix.specs.declared.prefixes.UnlawfulPrefix.{UnlawfulPrefix}
 
 -- a prefix has 1 to 16 name bytes
 unfoldable pub is_prefix : List ℕ → Bool
-is_prefix p = nat_lt 0 (length p) && (nat_le (length p) 16 && all name p)
+is_prefix p = nat_lt 0 (length p) && (nat_le (length p) 16 && list_all name p)
 
 -- the bytes of a prefix
 abbrev pub front : Prefix → List ℕ
-front p = take p.len p.bytes
+front p = text_of p.text
 
 -- what making a prefix answers
 abbrev pub made : Result Prefix UnlawfulPrefix → Result (List ℕ) UnlawfulPrefix
@@ -26,10 +26,6 @@ prefix_answer bytes = cond (is_prefix bytes) (Ok bytes) (Err (record {}))
 -- a refusal's number
 abbrev pub number : UnlawfulPrefix → ℕ
 number e = 10
-
--- the bytes of a joined name
-abbrev pub full_name : Joined → List ℕ
-full_name j = take j.len j.bytes
 
 -- a name can be joined where it has at most 64 bytes together with the prefix
 unfoldable pub joins : List ℕ → List ℕ → Bool

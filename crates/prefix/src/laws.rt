@@ -8,29 +8,25 @@ use carrier::laws::carriers_keep_the_rules;
 use carrier::traits::Carrier;
 
 // A layer keeps the rules of all carriers: what is set through it is got through it, and other names keep theirs.
-pub fn layers_keep_the_rules<C: Carrier>() -> u8
+pub fn layers_keep_the_rules<C: Carrier>()
     ensures { KeepsTheRules (layered C.Carrier.kind) }
 {
-    carriers_keep_the_rules::<Prefixed<C>>()
+    carriers_keep_the_rules::<Prefixed<C>>();
 }
 
 // So does a layer on a layer, and so on.
-pub fn piles_keep_the_rules<C: Carrier>() -> u8
+pub fn piles_keep_the_rules<C: Carrier>()
     ensures { KeepsTheRules (layered (layered C.Carrier.kind)) }
 {
-    carriers_keep_the_rules::<Prefixed<Prefixed<C>>>()
+    carriers_keep_the_rules::<Prefixed<Prefixed<C>>>();
 }
 
 // The prefixes of a pile are joined, the lowest first.
-pub fn piles_join_prefixes<C: Carrier>() -> u8
+pub fn piles_join_prefixes<C: Carrier>()
     ensures { PilesJoin C.Carrier.kind }
-{
-    0
-}
+{}
 
 // Names below that do not begin with the prefix are not altered.
-pub fn layers_leave_other_names<C: Carrier>() -> u8
+pub fn layers_leave_other_names<C: Carrier>()
     ensures { LeavesOthers C.Carrier.kind }
-{
-    0
-}
+{}

@@ -1,8 +1,8 @@
 // The layer.
 ghost use Rattle.std.specs.Prelude.{◌≡◌};
-ghost use Rattle.std.specs.Option.{option_map};
+ghost use Rattle.std.specs.Option.{option_map, option_and_then};
 ghost use Rattle.std.specs.List.{slice_get};
-ghost use Rattle.prefix.specs.Keys.{name_at, names_after};
+ghost use Rattle.prefix.specs.Keys.{name_after, names_after};
 ghost use Rattle.prefix.specs.Layers.{under, layered};
 ghost use Rattle.prefix.specs.Prefixes.{front};
 
@@ -38,11 +38,10 @@ impl<C: Carrier> Carrier for Prefixed<C> {
 impl<C: Extractor> Prefixed<C> {
     // The layer's name at that place below, if there is one.
     fn key_below(&self, at: usize) -> Option<&[u8]>
-        ensures { option_map (λ x. x.now) result ≡ name_at (front self.now.prefix) (slice_get (C.Extractor.order self.now.below) at) }
+        ensures { option_map (λ x. x.now) result ≡ option_and_then (name_after (front self.now.prefix)) (slice_get (C.Extractor.order self.now.below) at) }
     {
         let key = self.below.key_at(at)?;
-        let rest = strip_prefix(key, self.prefix.bytes())?;
-        if rest.is_empty() { None } else { Some(rest) }
+        strip_prefix(key, self.prefix.bytes()).filter(|rest| !rest.is_empty())
     }
 }
 
@@ -51,39 +50,29 @@ impl<C: Extractor> Extractor for Prefixed<C> {
 
     fn get<'a>(&'a self, name: &[u8]) -> Option<&'a [u8]> {
         let joined = self.prefix.joined(name)?;
-        self.below.get(joined.name())
+        self.below.get(joined.as_slice())
     }
 
     fn key_count(&self) -> usize {
-        let mut n = 0;
-        for i in 0..self.below.key_count() {
-            if self.key_below(i).is_some() {
-                n += 1;
-            }
-        }
-        n
+        (0..self.below.key_count())
+            .filter(|at| self.key_below(*at).is_some())
+            .count()
     }
 
+    // The chain begins as that of `key_count`: its type holds a closure, so no function can answer it.
     fn key_at(&self, at: usize) -> Option<&[u8]> {
-        let mut left = at;
-        for i in 0..self.below.key_count() {
-            if let Some(name) = self.key_below(i) {
-                if left == 0 {
-                    return Some(name);
-                }
-                left -= 1;
-            }
-        }
-        None
+        (0..self.below.key_count())
+            .filter(|at| self.key_below(*at).is_some())
+            .nth(at)
+            .and_then(|at| self.key_below(at))
     }
 }
 
 impl<C: Injector> Injector for Prefixed<C> {
     fn takes(&self, name: &[u8], len: usize) -> bool {
-        match self.prefix.joined(name) {
-            Some(joined) => self.below.takes(joined.name(), len),
-            None => false,
-        }
+        self.prefix
+            .joined(name)
+            .is_some_and(|joined| self.below.takes(joined.as_slice(), len))
     }
 
     // A lawful name and value can only be refused for want of room, below too.
@@ -91,18 +80,15 @@ impl<C: Injector> Injector for Prefixed<C> {
         if !is_name(name) || !is_lawful(value) {
             return Err(SetFault::Unlawful);
         }
-        match self.prefix.joined(name) {
-            Some(joined) => match self.below.set(joined.name(), value) {
-                Ok(()) => Ok(()),
-                Err(_) => Err(SetFault::Full),
-            },
-            None => Err(SetFault::Full),
-        }
+        let joined = self.prefix.joined(name).ok_or(SetFault::Full)?;
+        self.below
+            .set(joined.as_slice(), value)
+            .map_err(|_| SetFault::Full)
     }
 
     fn unset(&mut self, name: &[u8]) {
         if let Some(joined) = self.prefix.joined(name) {
-            self.below.unset(joined.name());
+            self.below.unset(joined.as_slice());
         }
     }
 }

@@ -1,11 +1,11 @@
 -- What an extract makes of the context and of the store that it fills, once the headers are read. Assumes nothing.
-use Rattle.std.specs.Prelude.{ℕ, true, cond, List, ℤ, is_some, Some, None, Ok, Err, codes, Option, Result}
+use Rattle.std.specs.Prelude.{ℕ, true, List, ℤ, Ok, Err, codes, Option, Result}
+use Rattle.std.specs.Option.{option_and_then}
 use Rattle.number.specs.Numbers.{mechanism}
 use Rattle.trace.specs.declared.ids.TraceId.{TraceId}
 use Rattle.fault.specs.declared.Cause.{Cause}
-use Rattle.fault.specs.declared.Cause.TheVariants as cause
+use Rattle.fault.specs.Faults.{store_cause}
 use Rattle.store.specs.declared.faults.StoreFault.{StoreFault}
-use Rattle.store.specs.declared.faults.StoreFault.TheVariants as full
 use Rattle.store.specs.Contents.{Contents, cleared}
 use Rattle.store.specs.Tags.{Tag, looked}
 use Rattle.context.specs.Contexts.{Context}
@@ -35,19 +35,9 @@ pub record Ended (A : Type 0) : Type 0 where
 abbrev pub ended : {A : Type 0} → Result A Cause → Desk → Ended A
 ended r d = record { answer = r; desk = d }
 
--- the cause of a call's refusal, if a change of its store is refused
-abbrev pub store_cause : StoreFault → Cause
-store_cause full.Unlawful = cause.Unlawful
-store_cause full.Full = cause.MemoryTooSmall
-
--- the mechanism that a tag's value writes
-abbrev pub mechanism_in : Option (List ℕ) → Option ℕ
-mechanism_in None = None
-mechanism_in (Some v) = mechanism v
-
 -- with a priority, the mechanism is that of the tag `_dd.p.dm`
 abbrev pub mechanism_of : Option ℤ → List Tag → Option ℕ
-mechanism_of priority tags = cond (is_some priority) (mechanism_in (looked (codes "_dd.p.dm") tags)) None
+mechanism_of priority tags = option_and_then (λ _. option_and_then mechanism (looked (codes "_dd.p.dm") tags)) priority
 
 -- the context that accepted headers give, in the store that they filled
 abbrev pub accepted : TraceId → ℕ → Option ℤ → Contents → Context

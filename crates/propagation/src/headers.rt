@@ -1,27 +1,55 @@
 // Headers of a form on a carrier.
-ghost use Rattle.std.specs.Prelude.{◌≡◌, [], ◌∷◌};
+ghost use Rattle.std.specs.Prelude.{◌≡◌, List, [], ◌∷◌};
+ghost use Rattle.fault.specs.declared.Header.{Header};
 ghost use Rattle.propagation.specs.Settings.{datadog_names, set_all, setting, unset_all, w3c_names};
 
 use carrier::traits::Injector;
-use fault::{Cause, Header};
+use fault::{Cause, Header, Worded};
 
-// Leaves no header of the W3C form.
-pub fn unset_w3c<C: Injector>(carrier: &mut C)
-    ensures { C.Carrier.held carrier.new ≡ unset_all C.Carrier.kind w3c_names (C.Carrier.held carrier.old) }
-{
-    carrier.unset(b"traceparent");
-    carrier.unset(b"tracestate");
+// A form of headers.
+pub trait Form {
+    ghost names: { List Header };
+
+    // Its headers, in the order in which they are set.
+    fn headers() -> &'static [Header]
+        ensures { result.now ≡ names };
 }
 
-// Leaves no header of the Datadog form.
-pub fn unset_datadog<C: Injector>(carrier: &mut C)
-    ensures { C.Carrier.held carrier.new ≡ unset_all C.Carrier.kind datadog_names (C.Carrier.held carrier.old) }
+// The headers of the W3C.
+pub struct W3c;
+
+impl Form for W3c {
+    ghost names = { w3c_names };
+
+    fn headers() -> &'static [Header] {
+        &[Header::Traceparent, Header::Tracestate]
+    }
+}
+
+// The headers of Datadog.
+pub struct Datadog;
+
+impl Form for Datadog {
+    ghost names = { datadog_names };
+
+    fn headers() -> &'static [Header] {
+        &[
+            Header::TraceId,
+            Header::ParentId,
+            Header::Origin,
+            Header::SamplingPriority,
+            Header::Tags,
+        ]
+    }
+}
+
+// Leaves no header of the form.
+pub fn unset_form<F: Form, C: Injector>(carrier: &mut C)
+    ensures { C.Carrier.held carrier.new ≡ unset_all C.Carrier.kind F.names (C.Carrier.held carrier.old) }
 {
-    carrier.unset(b"x-datadog-trace-id");
-    carrier.unset(b"x-datadog-parent-id");
-    carrier.unset(b"x-datadog-origin");
-    carrier.unset(b"x-datadog-sampling-priority");
-    carrier.unset(b"x-datadog-tags");
+    for header in F::headers() {
+        carrier.unset(header.bytes());
+    }
 }
 
 // Sets the header; a refusal names it and keeps the carrier's own fault.
@@ -29,8 +57,7 @@ pub fn set_header<C: Injector>(carrier: &mut C, header: Header, value: &[u8]) ->
     ensures answer { result ≡ (set_all C.Carrier.kind (setting header value.now ∷ []) (C.Carrier.held carrier.old)).answer }
     ensures after { C.Carrier.held carrier.new ≡ (set_all C.Carrier.kind (setting header value.now ∷ []) (C.Carrier.held carrier.old)).held }
 {
-    match carrier.set(header.name(), value) {
-        Ok(()) => Ok(()),
-        Err(fault) => Err(Cause::CarrierFull { header, fault }),
-    }
+    carrier
+        .set(header.bytes(), value)
+        .map_err(|fault| Cause::CarrierFull { header, fault })
 }

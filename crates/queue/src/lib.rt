@@ -1,8 +1,8 @@
 // The pile that queue jobs use: the prefix `job-` over a line block.
 #![tactic(auto)]
 
-ghost use Rattle.std.specs.Prelude.{◌≡◌, IfOk, if◌then◌else◌};
-ghost use Rattle.block.specs.Answers.{refusal};
+ghost use Rattle.std.specs.Prelude.{◌≡◌, IfOk};
+ghost use Rattle.std.specs.Result.{is_ok};
 ghost use Rattle.block.specs.Blocks.{opens};
 ghost use Rattle.carrier.specs.Laws.{KeepsTheRules};
 ghost use Rattle.queue.specs.Queues.{Opened, queue};
@@ -20,19 +20,17 @@ pub type Queue<'m> = Prefixed<LineBlock<'m>>;
 
 // Opens the pile on the block at the front of the memory.
 pub fn open_queue<'m>(memory: &'m mut [u8], len: usize) -> Result<Queue<'m>, OpenFault>
-    ensures refuses { refusal result ≡ (if opens memory.old len then 0 else 13) }
+    ensures opens { is_ok result ≡ opens memory.old len }
     ensures opened { IfOk result (Opened memory.entry len) }
 {
-    let Ok(prefix) = Prefix::new(QUEUE_PREFIX) else {
-        return Err(OpenFault::Malformed);
-    };
+    let prefix = Prefix::new(QUEUE_PREFIX).unwrap();
     let block = LineBlock::open(memory, len)?;
     Ok(Prefixed::new(block, prefix))
 }
 
 // The pile keeps the rules of all carriers, with nothing shown of its own.
-pub fn queues_keep_the_rules() -> u8
+pub fn queues_keep_the_rules()
     ensures { KeepsTheRules queue }
 {
-    carriers_keep_the_rules::<Queue>()
+    carriers_keep_the_rules::<Queue>();
 }

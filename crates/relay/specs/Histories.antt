@@ -2,14 +2,13 @@
 use Rattle.std.specs.Prelude.{◌≡◌, ℕ, List, [], ◌∷◌, codes, Option}
 use Rattle.carrier.specs.Kinds.{Kind}
 use Rattle.context.specs.Contexts.{Context}
-use Rattle.relay.specs.declared.calls.Answer.{Answer}
 use Rattle.relay.specs.declared.calls.Call.{Call}
-use Rattle.relay.specs.Turns.{State, turn, shown}
+use Rattle.relay.specs.Turns.{Answered, State, turn, shown}
 
 -- a call that was made: what it answered, the context before and after it, and what the carrier shows of the W3C form then
 pub record Event : Type 0 where
   pub call : Call
-  pub answer : Answer
+  pub answer : Answered
   pub before : Context
   pub after : Context
   pub parent : Option (List ℕ)

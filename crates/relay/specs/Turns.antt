@@ -19,8 +19,6 @@ use Rattle.w3c_inject.specs.Writes.{w3c_inject}
 use Rattle.datadog_extract.specs.Reads.{datadog_told, shown_headers}
 use Rattle.datadog_inject.specs.Writes.{Injected, datadog_inject}
 use Rattle.datadog_inject.specs.declared.answer.TagsAnswer.{TagsAnswer}
-use Rattle.relay.specs.declared.calls.Answer.{Answer}
-use Rattle.relay.specs.declared.calls.Answer.TheVariants as answer
 use Rattle.relay.specs.declared.calls.Call.{Call}
 use Rattle.relay.specs.declared.calls.Call.TheVariants as call
 
@@ -45,22 +43,25 @@ make_refusal c limit = cond (nat_lt 1024 limit) (Some cause.Unlawful) (cond (is_
 abbrev pub made : (K : Kind) → Context → Contents → ℕ → K.Held → State K
 made K c spare limit h = state K (desk c spare) limit (unset_all K all_names h)
 
--- a call's answer, as the list of answers has it
-abbrev pub plain : Result (Unit {0}) Fault → Answer
-plain (Ok _) = answer.Accepted
-plain (Err f) = answer.Refused f
+-- a call's answer, as the list of answers has it: only a Datadog inject says what became of its tags
+abbrev pub Answered : Type 0
+Answered = Result (Option TagsAnswer) Fault
 
-abbrev pub tagged : Result TagsAnswer Fault → Answer
-tagged (Ok a) = answer.Injected a
-tagged (Err f) = answer.Refused f
+abbrev pub plain : Result (Unit {0}) Fault → Answered
+plain (Ok _) = Ok None
+plain (Err f) = Err f
+
+abbrev pub tagged : Result TagsAnswer Fault → Answered
+tagged (Ok a) = Ok (Some a)
+tagged (Err f) = Err f
 
 -- what a call answers, and the state that it leaves
 pub record Turn (K : Kind) : Type 0 where
-  pub answer : Answer
+  pub answer : Answered
   pub state : State K
 
 module _ (K : Kind) where
-  abbrev pub turned : Answer → State K → Turn K
+  abbrev pub turned : Answered → State K → Turn K
   turned a s = record { answer = a; state = s }
 
   abbrev pub shown : State K → Table

@@ -20,9 +20,4 @@ pub enum Call {
 }
 
 // What a call answered. An accepted Datadog inject also says what became of its tags.
-#[derive(Clone, Copy, PartialEq, Eq, Debug)]
-pub enum Answer {
-    Accepted,
-    Injected(TagsAnswer),
-    Refused(Fault),
-}
+pub type Answer = Result<Option<TagsAnswer>, Fault>;

@@ -1,9 +1,8 @@
 // A line of a script as a call.
-use crate::quote::unquote;
+use crate::faults::LineFault;
 use crate::words::Words;
-use number::read::{read_hex_u64, read_i8};
-use std::alloc::{AllocError, Global};
-use text::check::same;
+use number::read::read_hex;
+use std::alloc::Global;
 use trace::ids::TraceId;
 use trace::priority::SamplingPriority;
 
@@ -19,100 +18,61 @@ pub(crate) enum Call {
     WriteTraceparent,
     ReadTraceparent,
     // A header of the carrier, as another program would set it.
-    Set(Vec<u8>, Vec<u8>),
-    Unset(Vec<u8>),
+    Set { name: Vec<u8>, value: Vec<u8> },
+    Unset { name: Vec<u8> },
 }
 
 fn read_trace_id(word: &[u8]) -> Option<TraceId> {
-    if word.len() != 32 {
-        return None;
-    }
-    let (front, back) = word.split_at(16);
-    let high = read_hex_u64(front)?;
-    let low = read_hex_u64(back)?;
-    Some(TraceId { high, low })
-}
-
-fn trace_call(word: &[u8]) -> Option<Call> {
-    let id = read_trace_id(word)?;
-    Some(Call::Trace(id))
-}
-
-fn span_call(word: &[u8]) -> Option<Call> {
-    let id = read_hex_u64(word)?;
-    Some(Call::Span(id))
+    let (high, low) = word.split_at_checked(16)?;
+    Some(TraceId {
+        high: read_hex(high, 16)?,
+        low: read_hex(low, 16)?,
+    })
 }
 
 fn priority_call(word: &[u8]) -> Option<Call> {
-    if same(word, b"none") {
-        return Some(Call::Priority(None));
-    }
-    let value = read_i8(word)?;
-    Some(Call::Priority(Some(SamplingPriority { value })))
-}
-
-fn traceparent_call(verb: &[u8]) -> Option<Call> {
-    if same(verb, b"write") {
-        Some(Call::WriteTraceparent)
-    } else if same(verb, b"read") {
-        Some(Call::ReadTraceparent)
-    } else {
-        None
+    match word {
+        b"none" => Some(Call::Priority(None)),
+        _ => SamplingPriority::from_text(word).map(|priority| Call::Priority(Some(priority))),
     }
 }
 
-fn set_call(heap: Global, words: &mut Words) -> Result<Option<Call>, AllocError> {
-    let Some(name) = unquote(heap, words.next())? else {
-        return Ok(None);
-    };
-    match unquote(heap, words.next())? {
-        Some(value) => Ok(Some(Call::Set(name, value))),
-        None => Ok(None),
+fn traceparent_call(word: &[u8]) -> Option<Call> {
+    match word {
+        b"write" => Some(Call::WriteTraceparent),
+        b"read" => Some(Call::ReadTraceparent),
+        _ => None,
     }
 }
 
-fn unset_call(heap: Global, words: &mut Words) -> Result<Option<Call>, AllocError> {
-    match unquote(heap, words.next())? {
-        Some(name) => Ok(Some(Call::Unset(name))),
-        None => Ok(None),
+// The call that one word after the verb writes.
+fn short_call(verb: &[u8], word: &[u8]) -> Option<Call> {
+    match verb {
+        b"trace" => read_trace_id(word).map(Call::Trace),
+        b"span" => read_hex(word, 16).map(Call::Span),
+        b"priority" => priority_call(word),
+        b"traceparent" => traceparent_call(word),
+        _ => None,
     }
 }
 
-// The call that the words write, whatever follows it.
-fn first_call(heap: Global, words: &mut Words) -> Result<Option<Call>, AllocError> {
-    let verb = words.next();
-    if same(verb, b"leg") {
-        let _ = words.next();
-        return Ok(Some(Call::Leg));
-    }
-    if same(verb, b"trace") {
-        return Ok(trace_call(words.next()));
-    }
-    if same(verb, b"span") {
-        return Ok(span_call(words.next()));
-    }
-    if same(verb, b"priority") {
-        return Ok(priority_call(words.next()));
-    }
-    if same(verb, b"traceparent") {
-        return Ok(traceparent_call(words.next()));
-    }
-    if same(verb, b"set") {
-        return set_call(heap, words);
-    }
-    if same(verb, b"unset") {
-        return unset_call(heap, words);
-    }
-    Ok(None)
-}
-
-// The call that the line writes; none if it cannot be read, or has words left over.
-pub(crate) fn read_call(heap: Global, line: &[u8]) -> Result<Option<Call>, AllocError> {
+// The call that the line writes.
+pub(crate) fn read_call(heap: Global, line: &[u8]) -> Result<Call, LineFault> {
     let mut words = Words::new(line);
-    let call = first_call(heap, &mut words)?;
-    if words.next().is_empty() {
-        Ok(call)
-    } else {
-        Ok(None)
-    }
+    let call = match words.word()? {
+        b"leg" => {
+            let _name = words.next();
+            Call::Leg
+        }
+        b"set" => Call::Set {
+            name: words.text(heap)?,
+            value: words.text(heap)?,
+        },
+        b"unset" => Call::Unset {
+            name: words.text(heap)?,
+        },
+        verb => short_call(verb, words.word()?).ok_or(LineFault::Unreadable)?,
+    };
+    words.end()?;
+    Ok(call)
 }

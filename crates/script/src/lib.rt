@@ -4,10 +4,10 @@
 mod call;
 mod choice;
 mod content;
+mod faults;
+mod job;
 mod lines;
 mod quote;
+mod replay;
 pub mod run;
-mod section;
-mod show;
-mod state;
 mod words;

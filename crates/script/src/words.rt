@@ -1,9 +1,14 @@
 // The words of a line.
+ghost use Rattle.std.specs.Prelude.{length};
+ghost use Rattle.std.specs.Iterator.{at_most};
+
+use crate::faults::LineFault;
+use crate::quote::unquote;
 use byte_classes::sets::{Blank, ByteTest};
-use text::split::split_once;
+use std::alloc::Global;
 use text::trim::trim;
 
-// A cursor over the words that are still to come. A word ends at a blank; a quoted one at its second quote.
+// The words that are still to come. A word ends at a blank; a quoted one at its second quote.
 #[derive(Clone, Copy)]
 pub(crate) struct Words<'a> {
     rest: &'a [u8],
@@ -14,32 +19,43 @@ impl<'a> Words<'a> {
         Words { rest: trim(line) }
     }
 
-    // The next word, with its quotes; empty at the end of the line.
-    pub(crate) fn next(&mut self) -> &'a [u8] {
+    // The next word, where there must be one.
+    pub(crate) fn word(&mut self) -> Result<&'a [u8], LineFault> {
+        self.next().ok_or(LineFault::Unreadable)
+    }
+
+    // The next word, which must be a quoted text.
+    pub(crate) fn text(&mut self, heap: Global) -> Result<Vec<u8>, LineFault> {
+        unquote(heap, self.word()?)
+    }
+
+    // Nothing may follow.
+    pub(crate) fn end(&mut self) -> Result<(), LineFault> {
+        self.next()
+            .is_none()
+            .then_some(())
+            .ok_or(LineFault::Unreadable)
+    }
+}
+
+impl<'a> Iterator for Words<'a> {
+    type Item = &'a [u8];
+
+    ghost remaining = { λ s. at_most (length s.rest.now) };
+
+    // The next word, with its quotes. What is left never begins with a blank.
+    #[tactic(auto, using(crate::proofs::Trimmed::trimmed_short))]
+    fn next(&mut self) -> Option<&'a [u8]> {
         let line = self.rest;
-        let n = word_len(line).min(line.len());
-        self.rest = trim(&line[n..]);
-        &line[0..n]
+        let (first, others) = line.split_first()?;
+        let more = match first {
+            b'"' => others
+                .iter()
+                .position(|b| *b == b'"')
+                .map_or(others.len(), |at| at + 1),
+            _ => others.iter().take_while(|b| !Blank::test(**b)).count(),
+        };
+        self.rest = trim(&line[more + 1..]);
+        Some(&line[..more + 1])
     }
-}
-
-// How many bytes the first word has.
-fn word_len(line: &[u8]) -> usize {
-    match line {
-        [b'"', inside @ ..] => match split_once(inside, b'"') {
-            Some((text, _)) => text.len() + 2,
-            None => line.len(),
-        },
-        _ => blank_at(line),
-    }
-}
-
-// The place of the first blank, or the length where there is none.
-fn blank_at(line: &[u8]) -> usize {
-    for (i, b) in line.iter().enumerate() {
-        if Blank::test(*b) {
-            return i;
-        }
-    }
-    line.len()
 }

@@ -1,7 +1,6 @@
-mod Filled
 mod Filling
 mod Keeping
 mod Listing
 mod Looking
-mod Placing
-mod Sought
+mod Searching
+mod Setting

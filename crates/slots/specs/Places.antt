@@ -1,6 +1,8 @@
 -- A row of places, each free or with a name and its value: what it shows and takes, and what setting and unsetting leave.
 -- Assumes nothing.
-use Rattle.std.specs.Prelude.{ℕ, suc, Bool, true, false, cond, ◌&&◌, ◌||◌, List, [], ◌∷◌, map, Some, None, Option, nat_le, slice_set}
+use Rattle.std.specs.Prelude.{ℕ, Bool, true, false, cond, ◌&&◌, ◌||◌, List, [], ◌∷◌, map, Some, None, Option, nat_le, slice_set, filter_map}
+use Rattle.std.specs.List.{list_any, position_or_len}
+use Rattle.std.specs.Option.{option_map}
 use Rattle.std.specs.Str.{bytes_eq}
 use Rattle.carrier.specs.Names.{is_name}
 use Rattle.carrier.specs.Steps.{may}
@@ -27,18 +29,15 @@ abbrev pub free : Place → Bool
 free None = true
 free (Some e) = false
 
--- whether some place passes, the first that does, and how many stand before it
-abbrev pub some : (Place → Bool) → Places → Bool
-some p [] = false
-some p (x ∷ xs) = p x || some p xs
+-- a free place, or a lawful name and value
+abbrev pub lawful_place : Place → Bool
+lawful_place None = true
+lawful_place (Some e) = may e.name e.value
 
+-- the first place that passes
 abbrev pub first : (Place → Bool) → Places → Place
 first p [] = None
 first p (x ∷ xs) = cond (p x) x (first p xs)
-
-abbrev pub seek : (Place → Bool) → Places → ℕ
-seek p [] = 0
-seek p (x ∷ xs) = cond (p x) 0 (suc (seek p xs))
 
 -- what a place shows under its name: only what is lawful
 abbrev pub shown_by : List ℕ → Place → Option (List ℕ)
@@ -51,17 +50,15 @@ shown ps n = shown_by n (first (named n) ps)
 
 -- the names of the places that are not free, in their order
 abbrev pub names : Places → List (List ℕ)
-names [] = []
-names (None ∷ ps) = names ps
-names (Some e ∷ ps) = e.name ∷ names ps
+names ps = filter_map (option_map (λ (e : Entry). e.name)) ps
 
 -- a value of at most 1,024 bytes is taken where some place has the name or is free
 abbrev pub room : Places → List ℕ → ℕ → Bool
-room ps n len = is_name n && (nat_le len 1024 && (some (named n) ps || some free ps))
+room ps n len = is_name n && (nat_le len 1024 && (list_any (named n) ps || list_any free ps))
 
 -- where a value goes: the place that has the name, or else the first free one
 abbrev pub place_for : Places → List ℕ → ℕ
-place_for ps n = cond (some (named n) ps) (seek (named n) ps) (seek free ps)
+place_for ps n = cond (list_any (named n) ps) (position_or_len (named n) ps) (position_or_len free ps)
 
 abbrev pub put : Places → List ℕ → List ℕ → Places
 put ps n v = slice_set ps (place_for ps n) (Some (entry n v))

@@ -1,14 +1,16 @@
 -- The laws of a row of places. Assumes nothing.
-use Rattle.std.specs.Prelude.{◌≡◌, ℕ, zero, suc, ◌<◌, ◌≤◌, Bool, true, false, cond, ◌||◌, List, [], ◌∷◌, map, length, Some, None, ◌≢◌, nat_le, slice_index_or, slice_set, refl}
+use Rattle.std.specs.Prelude.{◌≡◌, ℕ, zero, suc, ◌+◌, ◌<◌, ◌≤◌, Bool, true, false, cond, not, ◌||◌, List, [], ◌∷◌, map, length, Some, None, ◌≢◌, nat_le, slice_index_or, slice_set, refl}
 use Rattle.std.proofs.Common.{sym, ap, ◌∙◌, le_of_suc-le-suc, arith}
 use Rattle.std.proofs.lemmas.Slice.Eq.{bytes_eq-Decides}
 use Rattle.std.proofs.lemmas.Bool.{and_parts, and_from, leb-true, both_ways, cond-true}
+use Rattle.std.proofs.lemmas.List.Sums.{passes_at_first}
+use Rattle.std.specs.List.{list_any, position_or_len}
 use Rattle.std.specs.Str.{bytes_eq}
 use Rattle.text.specs.Texts.{lawful}
 use Rattle.carrier.specs.Kinds.{Lawful}
 use Rattle.carrier.specs.Names.{is_name}
 use Rattle.carrier.specs.Steps.{may}
-use Rattle.slots.specs.Places.{Entry, entry, Place, Places, named, free, some, first, seek, shown_by, shown, room, place_for, put, without, cut}
+use Rattle.slots.specs.Places.{Entry, entry, Place, Places, named, free, first, shown_by, shown, room, place_for, put, without, cut}
 
 pub same_self : (n : List ℕ) → bytes_eq n n ≡ true
 same_self n = (bytes_eq-Decides n n).1 refl
@@ -40,44 +42,44 @@ by_place n v (Some e) is = passed n v e (may n e.value) refl is
 pub shown_lawful : (ps : Places) (n v : List ℕ) → shown ps n ≡ Some v → Lawful n v
 shown_lawful ps n v is = by_place n v (first (named n) ps) is
 
+-- a list with one more in front, at a place that is not the first
+pub later : (p : Place) (ps : Places) (k : ℕ) → slice_index_or (p ∷ ps) (1 + k) None ≡ slice_index_or ps k None
+later p ps k = let e : 1 + k ≡ suc k = omega arith in rw e refl
+
 -- the first place that passes, by its index
 module _ (P : Place → Bool) where
-  pub first_at : (ps : Places) → first P ps ≡ slice_index_or ps (seek P ps) None
+  pub first_at : (ps : Places) → first P ps ≡ slice_index_or ps (position_or_len P ps) None
   first_at [] = refl
   first_at (p ∷ ps) = by (P p) (first_at ps) where
-    by : (t : Bool) → first P ps ≡ slice_index_or ps (seek P ps) None → cond t p (first P ps) ≡ slice_index_or (p ∷ ps) (cond t 0 (suc (seek P ps))) None
+    by : (t : Bool) → first P ps ≡ slice_index_or ps (position_or_len P ps) None → cond t p (first P ps) ≡ slice_index_or (p ∷ ps) (cond (not t) (1 + position_or_len P ps) 0) None
     by true ih = refl
-    by false ih = ih
+    by false ih = ih ∙ sym (later p ps (position_or_len P ps))
 
-  pub seek_passes : (ps : Places) → some P ps ≡ true → P (slice_index_or ps (seek P ps) None) ≡ true
-  seek_passes [] h = absurd (both_ways false refl h)
-  seek_passes (p ∷ ps) h = by (P p) refl h (seek_passes ps) where
-    by : (t : Bool) → P p ≡ t → (t || some P ps) ≡ true → (some P ps ≡ true → P (slice_index_or ps (seek P ps) None) ≡ true) → P (slice_index_or (p ∷ ps) (cond t 0 (suc (seek P ps))) None) ≡ true
-    by true e l ih = e
-    by false e l ih = ih l
-
-  pub seek_within : (ps : Places) → some P ps ≡ true → seek P ps < length ps
-  seek_within [] h = absurd (both_ways false refl h)
-  seek_within (p ∷ ps) h = by (P p) h (seek_within ps) where
-    by : (t : Bool) → (t || some P ps) ≡ true → (some P ps ≡ true → seek P ps < length ps) → cond t 0 (suc (seek P ps)) < suc (length ps)
+  pub within : (ps : Places) → list_any P ps ≡ true → position_or_len P ps < length ps
+  within [] h = absurd (both_ways false refl h)
+  within (p ∷ ps) h = by (P p) h (within ps) where
+    by : (t : Bool) → (t || list_any P ps) ≡ true → (list_any P ps ≡ true → position_or_len P ps < length ps) → cond (not t) (1 + position_or_len P ps) 0 < suc (length ps)
     by true l ih = omega arith
     by false l ih = let k = ih l in omega arith
 
-  pub seek_past : (ps : Places) → some P ps ≡ false → seek P ps ≡ length ps
-  seek_past [] h = refl
-  seek_past (p ∷ ps) h = by (P p) h (seek_past ps) where
-    by : (t : Bool) → (t || some P ps) ≡ false → (some P ps ≡ false → seek P ps ≡ length ps) → cond t 0 (suc (seek P ps)) ≡ suc (length ps)
+  pub past : (ps : Places) → list_any P ps ≡ false → position_or_len P ps ≡ length ps
+  past [] h = refl
+  past (p ∷ ps) h = by (P p) h (past ps) where
+    by : (t : Bool) → (t || list_any P ps) ≡ false → (list_any P ps ≡ false → position_or_len P ps ≡ length ps) → cond (not t) (1 + position_or_len P ps) 0 ≡ suc (length ps)
     by true l ih = absurd (both_ways true l refl)
-    by false l ih = ap suc (ih l)
+    by false l ih = let k = ih l in omega arith
+
+  pub passes : (ps : Places) → list_any P ps ≡ true → P (slice_index_or ps (position_or_len P ps) None) ≡ true
+  passes ps h = passes_at_first P ps None (within ps h)
 
   -- a write at the first place that passes, or before it
-  first_set : (ps : Places) (i : ℕ) (x : Place) → i < length ps → i ≤ seek P ps → P x ≡ true → first P (slice_set ps i x) ≡ x
+  first_set : (ps : Places) (i : ℕ) (x : Place) → i < length ps → i ≤ position_or_len P ps → P x ≡ true → first P (slice_set ps i x) ≡ x
   first_set [] i x h le e = absurd (omega arith)
   first_set (p ∷ ps) zero x h le e = rw e
   first_set (p ∷ ps) (suc i) x h le e = by (P p) le (λ l. first_set ps i x (le_of_suc-le-suc h) l e) where
-    by : (t : Bool) → suc i ≤ cond t 0 (suc (seek P ps)) → (i ≤ seek P ps → first P (slice_set ps i x) ≡ x) → cond t p (first P (slice_set ps i x)) ≡ x
+    by : (t : Bool) → suc i ≤ cond (not t) (1 + position_or_len P ps) 0 → (i ≤ position_or_len P ps → first P (slice_set ps i x) ≡ x) → cond t p (first P (slice_set ps i x)) ≡ x
     by true l ih = absurd (omega arith)
-    by false l ih = ih (le_of_suc-le-suc l)
+    by false l ih = ih (omega arith)
 
   -- a write of what does not pass over what does not
   first_other : (ps : Places) (i : ℕ) (x : Place) → P x ≡ false → P (slice_index_or ps i None) ≡ false → first P (slice_set ps i x) ≡ first P ps
@@ -87,29 +89,29 @@ module _ (P : Place → Bool) where
 
 -- where a value goes, by whether some place has the name already
 module _ (ps : Places) (n : List ℕ) where
-  pub place_within : (some (named n) ps || some free ps) ≡ true → place_for ps n < length ps
-  place_within h = by (some (named n) ps) refl h where
-    by : (t : Bool) → some (named n) ps ≡ t → (t || some free ps) ≡ true → cond t (seek (named n) ps) (seek free ps) < length ps
-    by true e l = seek_within (named n) ps e
-    by false e l = seek_within free ps l
+  pub place_within : (list_any (named n) ps || list_any free ps) ≡ true → place_for ps n < length ps
+  place_within h = by (list_any (named n) ps) refl h where
+    by : (t : Bool) → list_any (named n) ps ≡ t → (t || list_any free ps) ≡ true → cond t (position_or_len (named n) ps) (position_or_len free ps) < length ps
+    by true e l = within (named n) ps e
+    by false e l = within free ps l
 
-  place_before : place_for ps n < length ps → place_for ps n ≤ seek (named n) ps
-  place_before h = by (some (named n) ps) refl h where
-    by : (t : Bool) → some (named n) ps ≡ t → cond t (seek (named n) ps) (seek free ps) < length ps → cond t (seek (named n) ps) (seek free ps) ≤ seek (named n) ps
+  place_before : place_for ps n < length ps → place_for ps n ≤ position_or_len (named n) ps
+  place_before h = by (list_any (named n) ps) refl h where
+    by : (t : Bool) → list_any (named n) ps ≡ t → cond t (position_or_len (named n) ps) (position_or_len free ps) < length ps → cond t (position_or_len (named n) ps) (position_or_len free ps) ≤ position_or_len (named n) ps
     by true e l = omega arith
-    by false e l = let past = seek_past (named n) ps e in omega arith
+    by false e l = let all = past (named n) ps e in omega arith
 
   -- what is written over has no other name
-  pub place_apart : (m : List ℕ) → (m ≢ n) → (some (named n) ps || some free ps) ≡ true → named m (slice_index_or ps (place_for ps n) None) ≡ false
-  place_apart m ne h = by (some (named n) ps) refl h where
-    by : (t : Bool) → some (named n) ps ≡ t → (t || some free ps) ≡ true → named m (slice_index_or ps (cond t (seek (named n) ps) (seek free ps)) None) ≡ false
-    by true e l = named_apart (slice_index_or ps (seek (named n) ps) None) m n ne (seek_passes (named n) ps e)
-    by false e l = free_unnamed (slice_index_or ps (seek free ps) None) m (seek_passes free ps l)
+  pub place_apart : (m : List ℕ) → (m ≢ n) → (list_any (named n) ps || list_any free ps) ≡ true → named m (slice_index_or ps (place_for ps n) None) ≡ false
+  place_apart m ne h = by (list_any (named n) ps) refl h where
+    by : (t : Bool) → list_any (named n) ps ≡ t → (t || list_any free ps) ≡ true → named m (slice_index_or ps (cond t (position_or_len (named n) ps) (position_or_len free ps)) None) ≡ false
+    by true e l = named_apart (slice_index_or ps (position_or_len (named n) ps) None) m n ne (passes (named n) ps e)
+    by false e l = free_unnamed (slice_index_or ps (position_or_len free ps) None) m (passes free ps l)
 
 pub record Roomy (ps : Places) (n : List ℕ) (len : ℕ) : Type 0 where
   pub name : is_name n ≡ true
   pub length : len ≤ 1024
-  pub place : (some (named n) ps || some free ps) ≡ true
+  pub place : (list_any (named n) ps || list_any free ps) ≡ true
 
 pub roomy : (ps : Places) (n : List ℕ) (len : ℕ) → room ps n len ≡ true → Roomy ps n len
 roomy ps n len e =

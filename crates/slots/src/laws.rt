@@ -7,15 +7,13 @@ use crate::table::SlotTable;
 use carrier::laws::carriers_keep_the_rules;
 
 // A slot table keeps the rules of all carriers.
-pub fn slot_tables_keep_the_rules() -> u8
+pub fn slot_tables_keep_the_rules()
     ensures { KeepsTheRules slot_table }
 {
-    carriers_keep_the_rules::<SlotTable>()
+    carriers_keep_the_rules::<SlotTable>();
 }
 
 // A set fills one slot, and the other fifteen stay.
-pub fn set_fills_one_slot() -> u8
+pub fn set_fills_one_slot()
     ensures { SetFillsOne }
-{
-    0
-}
+{}

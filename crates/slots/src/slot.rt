@@ -1,82 +1,76 @@
-// One slot: its arrays, and how much of each counts.
-ghost use Rattle.std.specs.Prelude.{◌≡◌, ◌≤◌, true, length, Some, None};
-ghost use Rattle.text.specs.Texts.{lawful};
-ghost use Rattle.carrier.specs.Names.{is_name};
+// One slot, and what stands in it.
+ghost use Rattle.std.specs.Prelude.{◌≡◌, ◌≤◌, length, Some, None};
+ghost use Rattle.std.specs.Option.{option_map};
 ghost use Rattle.slots.specs.Places.{entry, named, free};
-ghost use Rattle.slots.specs.Slots.{name_of, value_of, place_of, sound};
+ghost use Rattle.slots.specs.Slots.{place_of};
 
 use carrier::names::MAX_NAME;
-use text::check::same;
+use text::inline::Inline;
 
 // The longest value that a slot has room for.
 pub(crate) const MAX_VALUE: usize = 1_024;
 
-// A slot is free where its name is empty. Bytes past the two lengths do not count.
+// A name and its value. That both are lawful is said by a ghost field of the table and by none here: an array's element of a type
+// with a ghost field cannot be lent by `&mut` to `fill`, since the checker does not cover it.
+#[derive(Clone, Copy)]
+struct Held {
+    name: Inline<MAX_NAME>,
+    value: Inline<MAX_VALUE>,
+}
+
+// Nothing is held where the slot is free.
 #[derive(Clone, Copy)]
 pub(crate) struct Slot {
-    name: [u8; MAX_NAME],
-    name_len: usize,
-    value: [u8; MAX_VALUE],
-    value_len: usize,
+    held: Option<Held>,
 }
 
 impl Slot {
-    pub(crate) const FREE: Slot = Slot {
-        name: [0; MAX_NAME],
-        name_len: 0,
-        value: [0; MAX_VALUE],
-        value_len: 0,
-    };
+    pub(crate) const FREE: Slot = Slot { held: None };
 
-    pub(crate) fn name(&self) -> &[u8]
-        requires { sound self.now ≡ true }
-        ensures { result.now ≡ name_of self.now }
+    // This and `value` differ in a field, which no parameter can name.
+    pub(crate) fn name(&self) -> Option<&[u8]>
+        ensures { option_map (λ x. x.now) result ≡ option_map (λ e. e.name) (place_of self.now) }
     {
-        &self.name[0..self.name_len]
+        self.held.as_ref().map(|held| held.name.as_slice())
     }
 
-    pub(crate) fn value(&self) -> &[u8]
-        requires { sound self.now ≡ true }
-        ensures { result.now ≡ value_of self.now }
+    pub(crate) fn value(&self) -> Option<&[u8]>
+        ensures { option_map (λ x. x.now) result ≡ option_map (λ e. e.value) (place_of self.now) }
     {
-        &self.value[0..self.value_len]
+        self.held.as_ref().map(|held| held.value.as_slice())
     }
 
     pub(crate) fn is_free(&self) -> bool
         ensures { result ≡ free (place_of self.now) }
     {
-        self.name_len == 0
+        self.held.is_none()
     }
 
     pub(crate) fn is_named(&self, name: &[u8]) -> bool
-        requires { sound self.now ≡ true }
         ensures { result ≡ named name.now (place_of self.now) }
     {
-        !self.is_free() && same(self.name(), name)
+        self.name().is_some_and(|own| own == name)
     }
 
     // The slot has this name and value from now on.
     pub(crate) fn fill(&mut self, name: &[u8], value: &[u8])
-        requires names { is_name name.now ≡ true }
-        requires values { lawful value.now ≡ true }
-        requires fits { length value.now ≤ 1024 }
-        ensures place { place_of self.new ≡ Some (entry name.now value.now) }
-        ensures sound { sound self.new ≡ true }
+        requires name { length name.now ≤ 64 }
+        requires value { length value.now ≤ 1024 }
+        ensures { place_of self.new ≡ Some (entry name.now value.now) }
     {
-        let n = name.len();
-        let v = value.len();
-        self.name_len = n;
-        self.name[0..n].copy_from_slice(name);
-        self.value_len = v;
-        self.value[0..v].copy_from_slice(value);
+        let mut held = Held {
+            name: Inline::new(),
+            value: Inline::new(),
+        };
+        held.name.push(name).unwrap();
+        held.value.push(value).unwrap();
+        self.held = Some(held);
     }
 
     // The slot is free from now on.
     pub(crate) fn clear(&mut self)
-        ensures place { place_of self.new ≡ None }
-        ensures sound { sound self.new ≡ true }
+        ensures { place_of self.new ≡ None }
     {
-        self.name_len = 0;
-        self.value_len = 0;
+        self.held = None;
     }
 }

@@ -1,8 +1,9 @@
 // The table of sixteen slots.
-ghost use Rattle.std.specs.Prelude.{◌≡◌, true, length, replicate, if◌then◌else◌, Some, None};
+ghost use Rattle.std.specs.Prelude.{◌≡◌, true, length, replicate, if◌then◌else◌, Some, None, position};
+ghost use Rattle.std.specs.List.{list_all};
 ghost use Rattle.carrier.specs.Names.{distinct};
-ghost use Rattle.slots.specs.Places.{named, free, seek, names, room, place_for};
-ghost use Rattle.slots.specs.Slots.{places_of, all_sound};
+ghost use Rattle.slots.specs.Places.{lawful_place, named, free, names, room, place_for};
+ghost use Rattle.slots.specs.Slots.{places_of};
 ghost use Rattle.slots.specs.Tables.{slot_table};
 
 use crate::slot::{MAX_VALUE, Slot};
@@ -14,12 +15,12 @@ use text::check::is_lawful;
 // How many slots a table has.
 pub const SLOTS: usize = 16;
 
-// The slots hold lawful names and values, and no name stands in two of them.
+// What the slots hold is lawful, and no name stands in two of them.
 #[derive(Drop)]
 pub struct SlotTable {
     slots: [Slot; SLOTS],
     ghost sixteen: { length slots ≡ 16 },
-    ghost lawful: { all_sound slots ≡ true },
+    ghost lawful: { list_all lawful_place (places_of slots) ≡ true },
     ghost once: { distinct (names (places_of slots)) ≡ true },
 }
 
@@ -33,47 +34,28 @@ impl SlotTable {
         }
     }
 
-    // The first slot that has the name, or how many there are.
-    fn find(&self, name: &[u8]) -> usize
-        ensures { result ≡ seek (named name.now) (places_of self.now.slots) }
+    // The slot that has the name.
+    fn find(&self, name: &[u8]) -> Option<usize>
+        ensures { result ≡ position (named name.now) (places_of self.now.slots) }
     {
-        for i in 0..SLOTS {
-            if self.slots[i].is_named(name) {
-                return i;
-            }
-        }
-        SLOTS
+        self.slots.iter().position(|slot| slot.is_named(name))
     }
 
-    // The first free slot, or how many there are.
-    fn find_free(&self) -> usize
-        ensures { result ≡ seek free (places_of self.now.slots) }
+    // The first free slot.
+    fn find_free(&self) -> Option<usize>
+        ensures { result ≡ position free (places_of self.now.slots) }
     {
-        for i in 0..SLOTS {
-            if self.slots[i].is_free() {
-                return i;
-            }
-        }
-        SLOTS
+        self.slots.iter().position(|slot| slot.is_free())
     }
 
-    // Where a value under the name goes.
-    fn place(&self, name: &[u8]) -> usize
-        ensures { result ≡ place_for (places_of self.now.slots) name.now }
-    {
-        let own = self.find(name);
-        if own < SLOTS { own } else { self.find_free() }
-    }
-
-    // That slot, if a value of that length is taken.
+    // Where a value of that length goes under the name, if it is taken.
     fn slot_for(&self, name: &[u8], len: usize) -> Option<usize>
         ensures { result ≡ (if room (places_of self.now.slots) name.now len then Some (place_for (places_of self.now.slots) name.now) else None) }
     {
         if !is_name(name) || len > MAX_VALUE {
             return None;
         }
-        let i = self.place(name);
-        if i < SLOTS { Some(i) } else { None }
+        self.find(name).or_else(|| self.find_free())
     }
 }
 
@@ -87,35 +69,21 @@ impl Extractor for SlotTable {
     ghost order = { λ t. names (places_of t.slots) };
 
     fn get<'a>(&'a self, name: &[u8]) -> Option<&'a [u8]> {
-        let i = self.find(name);
-        if i < SLOTS {
-            Some(self.slots[i].value())
-        } else {
-            None
-        }
+        let at = self.find(name)?;
+        self.slots[at].value()
     }
 
     fn key_count(&self) -> usize {
-        let mut n = 0;
-        for i in 0..SLOTS {
-            if !self.slots[i].is_free() {
-                n += 1;
-            }
-        }
-        n
+        self.slots.iter().filter(|slot| !slot.is_free()).count()
     }
 
+    // The chain begins as that of `key_count`: its type holds a closure, so no function can answer it.
     fn key_at(&self, at: usize) -> Option<&[u8]> {
-        let mut left = at;
-        for i in 0..SLOTS {
-            if !self.slots[i].is_free() {
-                if left == 0 {
-                    return Some(self.slots[i].name());
-                }
-                left -= 1;
-            }
-        }
-        None
+        self.slots
+            .iter()
+            .filter(|slot| !slot.is_free())
+            .nth(at)
+            .and_then(|slot| slot.name())
     }
 }
 
@@ -128,19 +96,14 @@ impl Injector for SlotTable {
         if !is_name(name) || !is_lawful(value) {
             return Err(SetFault::Unlawful);
         }
-        match self.slot_for(name, value.len()) {
-            Some(i) => {
-                self.slots[i].fill(name, value);
-                Ok(())
-            }
-            None => Err(SetFault::Full),
-        }
+        let at = self.slot_for(name, value.len()).ok_or(SetFault::Full)?;
+        self.slots[at].fill(name, value);
+        Ok(())
     }
 
     fn unset(&mut self, name: &[u8]) {
-        let i = self.find(name);
-        if i < SLOTS {
-            self.slots[i].clear();
+        if let Some(at) = self.find(name) {
+            self.slots[at].clear();
         }
     }
 }

@@ -1,47 +1,37 @@
 -- Carried pieces passed on one after the other, and the whole list. Assumes nothing.
-use Rattle.std.proofs.Common.{◌≡◌, ℕ, suc, ◌+◌, ◌-◌, ◌<◌, ◌≤◌, Bool, true, false, cond, List, [], ◌∷◌, ◌++◌, take, Some, None, codes, Option, sym, refl, ap, ◌∙◌, append-nil, arith}
-use Rattle.std.proofs.lemmas.List.{take_all}
+use Rattle.std.proofs.Common.{◌≡◌, ℕ, Bool, true, false, cond, List, [], ◌∷◌, ◌++◌, map, take, Some, None, codes, filter, Option, sym, refl, ap, ◌∙◌, append-nil, append_assoc}
+use Rattle.std.proofs.Math.Seq.{take-nil}
 use Rattle.statelist.specs.Choosing.{passes_on, ot_to_add}
 use Rattle.statelist.specs.Placing.{followed}
 use Rattle.statelist.specs.Written.{carried_pieces, carries_ot, new_ot, passed, passed_if, written_members, written_list}
-use Rattle.text.specs.Cursors.{first_of, others_of}
 use Rattle.text.specs.Laws.{joined_by}
 use Rattle.text.specs.Trims.{trimmed}
 use Rattle.tracestate.specs.Members.{Pair, member_of}
 
 module _ (ot : Option (List ℕ)) where
-  by-member : (text : List ℕ) (m : Option Pair) (rest : List (List ℕ)) → passed_if ot text m rest ≡ cond (passes_on ot m) (text ∷ rest) rest
+  by-member : (text : List ℕ) (m : Option Pair) (rest : List (List ℕ)) → cond (passes_on ot m) (text ∷ rest) rest ≡ passed_if ot text m rest
   by-member text None rest = refl
   by-member text (Some m) rest = refl
 
-  -- what the next piece, blanks off, gives
-  next_piece : (ps : List (List ℕ)) (p text : List ℕ) (rest : List (List ℕ)) → Some p ≡ first_of ps → rest ≡ others_of ps → text ≡ trimmed p → passed ot ps ≡ cond (passes_on ot (member_of text)) (text ∷ passed ot rest) (passed ot rest)
+  -- what is passed on, by a filter
+  pub passing : (ps : List (List ℕ)) → filter (λ t. passes_on ot (member_of t)) (map trimmed ps) ≡ passed ot ps
   unfolding passed
-  next_piece [] p text rest e r t = let z : ◌≡◌ {A = ℕ} 0 1 = cc in absurd (omega arith)
-  next_piece (q ∷ qs) p text rest e r t =
-      let same : trimmed q ≡ text = let is : q ≡ p = cc in ap trimmed is ∙ sym t in
-      by-member (trimmed q) (member_of (trimmed q)) (passed ot qs) ∙ (λ i. cond (passes_on ot (member_of (same i))) (same i ∷ passed ot (sym r i)) (passed ot (sym r i)))
+  passing [] = refl
+  passing (p ∷ ps) =
+      let t = trimmed p in
+      ap (λ rest. cond (passes_on ot (member_of t)) (t ∷ rest) rest) (passing ps) ∙ by-member t (member_of t) (passed ot ps)
 
-  -- n members stand, and so many more may follow
-  pub one_more : (ps : List (List ℕ)) (p text : List ℕ) (rest : List (List ℕ)) (n : ℕ) → n < 32 → Some p ≡ first_of ps → rest ≡ others_of ps → text ≡ trimmed p → true ≡ passes_on ot (member_of text) → followed (take (32 - n) (passed ot ps)) ≡ (0x2C ∷ text) ++ followed (take (32 - (n + 1)) (passed ot rest))
-  one_more ps p text rest n h e r t b =
-      let k : 32 - n ≡ suc (32 - (n + 1)) = omega arith in
-      let all : passed ot ps ≡ text ∷ passed ot rest = next_piece ps p text rest e r t ∙ ap (λ c. cond c (text ∷ passed ot rest) (passed ot rest)) (sym b) in
-      (λ i. followed (take (k i) (all i)))
+-- without a list there is none
+pub no_list : (ot : Option (List ℕ)) (most : ℕ) → take most (passed ot []) ≡ []
+unfolding passed
+no_list ot most = take-nil most
 
-  pub none_more : (ps : List (List ℕ)) (p text : List ℕ) (rest : List (List ℕ)) → Some p ≡ first_of ps → rest ≡ others_of ps → text ≡ trimmed p → false ≡ passes_on ot (member_of text) → passed ot ps ≡ passed ot rest
-  none_more ps p text rest e r t b = next_piece ps p text rest e r t ∙ ap (λ c. cond c (text ∷ passed ot rest) (passed ot rest)) (sym b)
+-- one member more behind a text
+pub one_more : (text : List ℕ) {whole m : List ℕ} {left more : List (List ℕ)} → left ≡ m ∷ more → text ++ followed left ≡ whole → (text ++ 0x2C ∷ m) ++ followed more ≡ whole
+one_more text {whole} {m} {left} {more} e h = append_assoc text (0x2C ∷ m) (followed more) ∙ ap (λ ms. text ++ followed ms) (sym e) ∙ h
 
-  pub all_seen : (ps : List (List ℕ)) (n : ℕ) → None ≡ first_of ps → followed (take (32 - n) (passed ot ps)) ≡ []
-  unfolding passed
-  all_seen [] n e = ap followed (take_all (32 - n) [] (omega arith))
-  all_seen (q ∷ qs) n e = let z : ◌≡◌ {A = ℕ} 0 1 = cc in absurd (omega arith)
-
-  pub no_list : (n : ℕ) → followed (take (32 - n) (passed ot [])) ≡ []
-  no_list n = all_seen [] n refl
-
-pub enough : (ms : List (List ℕ)) (n : ℕ) → 32 ≤ n → followed (take (32 - n) ms) ≡ []
-enough ms n h = let none : 32 - n ≡ 0 = omega arith in rw none refl
+pub no_more : (text : List ℕ) {whole : List ℕ} {left : List (List ℕ)} → left ≡ [] → text ++ followed left ≡ whole → text ≡ whole
+no_more text e h = sym (append-nil text) ∙ ap (λ ms. text ++ followed ms) (sym e) ∙ h
 
 joined : (m : List ℕ) (ms : List (List ℕ)) → joined_by 0x2C (m ∷ ms) ≡ m ++ followed ms
 joined m [] = sym (append-nil m)
@@ -68,12 +58,14 @@ module _ (ot list : Option (List ℕ)) where
   abbrev pub tail : List ℕ
   tail = followed (take 31 (new_ot ot (carried_pieces list) ++ others))
 
-  pub list_is : (dd : List ℕ) → (codes "dd=" ++ dd) ++ tail ≡ written_list dd ot list
+  -- dd's member behind a text, and what is still owed
+  pub dd_first : (text dd : List ℕ) → (text ++ (codes "dd=" ++ dd)) ++ tail ≡ text ++ written_list dd ot list
   unfolding written_list written_members
-  list_is dd = sym (joined (codes "dd=" ++ dd) (take 31 (new_ot ot (carried_pieces list) ++ others)))
+  dd_first text dd = append_assoc text (codes "dd=" ++ dd) tail ∙ ap (λ t. text ++ t) (sym (joined (codes "dd=" ++ dd) (take 31 (new_ot ot (carried_pieces list) ++ others))))
 
-  pub tail_with : (v : List ℕ) → Some v ≡ ot_to_add ot (carried_pieces list) → tail ≡ (codes ",ot=" ++ v) ++ followed (take 30 others)
-  tail_with v e = ap (λ ms. followed (take 31 (ms ++ others))) (adds ot (carried_pieces list) ∙ ap added (sym e))
+  -- the member of an ot value that is added, or none
+  pub ot_second : (text : List ℕ) {v whole : List ℕ} → Some v ≡ ot_to_add ot (carried_pieces list) → text ++ tail ≡ whole → (text ++ (codes ",ot=" ++ v)) ++ followed (take 30 others) ≡ whole
+  ot_second text {v} e h = append_assoc text (codes ",ot=" ++ v) (followed (take 30 others)) ∙ ap (λ ms. text ++ followed (take 31 (ms ++ others))) (ap added e ∙ sym (adds ot (carried_pieces list))) ∙ h
 
-  pub tail-without : None ≡ ot_to_add ot (carried_pieces list) → tail ≡ followed (take 31 others)
-  tail-without e = ap (λ ms. followed (take 31 (ms ++ others))) (adds ot (carried_pieces list) ∙ ap added (sym e))
+  pub no_ot : (text : List ℕ) {whole : List ℕ} → None ≡ ot_to_add ot (carried_pieces list) → text ++ tail ≡ whole → text ++ followed (take 31 others) ≡ whole
+  no_ot text e h = ap (λ ms. text ++ followed (take 31 (ms ++ others))) (ap added e ∙ sym (adds ot (carried_pieces list))) ∙ h

@@ -2,11 +2,10 @@
 use Rattle.std.proofs.Common.{◌≡◌, ℕ, suc, ◌+◌, ◌*◌, ◌<◌, ◌≤◌, Bool, true, eqb, ltb, List, [], ◌∷◌, map, length, take, Some, refl, ap, ◌∙◌, suc-mul, arith, length-append}
 use Rattle.std.proofs.lemmas.List.{take_all}
 use Rattle.std.proofs.lemmas.Bool.{and_from, cond-true, cond-false, ne_eqb, lt-ltb}
-use Rattle.std.specs.List.{AllByRecursion}
+use Rattle.std.specs.List.{AllByRecursion, list_all}
 use Rattle.byte_classes.specs.Sets.{text}
 use Rattle.text.specs.Laws.{Lacks, joined_by}
 use Rattle.text.specs.Splits.{pieces}
-use Rattle.text.specs.Texts.{all}
 use Rattle.text.specs.Trims.{trimmed}
 use Rattle.text.proofs.Alls.{all_append}
 use Rattle.text.proofs.Joins.{pieces_only}
@@ -61,14 +60,14 @@ unfolding tracestate
 joined-read {t} {m} {ts} {ms} r few = ap (λ ps. members_of (take 32 ps)) (joined-pieces r) ∙ ap members_of (take_all 32 (t ∷ ts) (omega arith)) ∙ members-read r
 
 -- a test that all bytes pass, the separator too
-pub joined-all : (q : ℕ → Bool) (c : ℕ) → q c ≡ true → (ts : List (List ℕ)) → AllByRecursion (λ t. all q t ≡ true) ts → all q (joined_by c ts) ≡ true
+pub joined-all : (q : ℕ → Bool) (c : ℕ) → q c ≡ true → (ts : List (List ℕ)) → AllByRecursion (λ t. list_all q t ≡ true) ts → list_all q (joined_by c ts) ≡ true
 joined-all q c e [] h = refl
 joined-all q c e (t ∷ []) h = h.0
-joined-all q c e (t ∷ (u ∷ us)) h = all_append q t (c ∷ joined_by c (u ∷ us)) h.0 (and_from (q c) (all q (joined_by c (u ∷ us))) e (joined-all q c e (u ∷ us) h.1))
+joined-all q c e (t ∷ (u ∷ us)) h = all_append q t (c ∷ joined_by c (u ∷ us)) h.0 (and_from (q c) (list_all q (joined_by c (u ∷ us))) e (joined-all q c e (u ∷ us) h.1))
 
-pub joined-text : {ts : List (List ℕ)} {ms : List Pair} → Reads ts ms → all text (joined_by 0x2C ts) ≡ true
+pub joined-text : {ts : List (List ℕ)} {ms : List Pair} → Reads ts ms → list_all text (joined_by 0x2C ts) ≡ true
 unfolding text
-joined-text {ts} r = joined-all text 0x2C refl ts (reads_all (λ t. all text t ≡ true) member-text r)
+joined-text {ts} r = joined-all text 0x2C refl ts (reads_all (λ t. list_all text t ≡ true) member-text r)
 
 -- a first text, and some of up to n bytes, each after a separator
 pub joined_length : (c n : ℕ) (t : List ℕ) (ts : List (List ℕ)) → AllByRecursion (λ u. length u ≤ n) ts → length (joined_by c (t ∷ ts)) ≤ length t + length ts * (n + 1)

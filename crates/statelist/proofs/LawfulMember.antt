@@ -1,13 +1,15 @@
 -- The text of one lawful member: its parts, its bytes, its ends. Assumes nothing.
-use Rattle.std.proofs.Common.{◌≡◌, ℕ, zero, suc, ◌+◌, ◌-◌, ◌<◌, ◌≤◌, Bool, true, false, cond, ◌&&◌, ◌||◌, eqb, List, [], ◌∷◌, ◌++◌, reverse, length, get_or, Some, None, codes, Option, sym, refl, ap, ◌∙◌, subst, inl, inr, append_assoc, append-nil, arith, length-append}
+use Rattle.std.proofs.Common.{◌≡◌, ℕ, ◌+◌, ◌-◌, ◌<◌, ◌≤◌, Bool, true, false, cond, ◌&&◌, ◌||◌, eqb, List, [], ◌∷◌, ◌++◌, reverse, length, get_or, Some, None, codes, Option, sym, refl, ap, ◌∙◌, subst, inl, inr, append_assoc, append-nil, arith, length-append}
 use mathlib.Core.List.{reverse-append}
+use Rattle.std.proofs.lemmas.List.Elements.{All-weaker}
+use Rattle.std.proofs.lemmas.List.Sums.{AllPass-from_list_all, list_all-from_AllPass}
 use Rattle.std.proofs.lemmas.List.{get_or-reverse, length-reverse}
 use Rattle.std.proofs.lemmas.Bool.{cases_Bool, both_ways, and_parts, and_from, cond-true, eqb-true, leb-true, ltb-true, not-true, not_from_false, or_left, or_right}
 use Rattle.std.proofs.lemmas.Bool.Decides.{nat_tests}
 use Rattle.byte_classes.specs.Sets.{blank, letter_or_digit, space, text, tracestate_key, tracestate_value}
 use Rattle.text.specs.Laws.{bare, Lacks}
 use Rattle.text.specs.Splits.{other, split_once}
-use Rattle.text.specs.Texts.{all}
+use Rattle.std.specs.List.{list_all}
 use Rattle.text.specs.Trims.{trimmed}
 use Rattle.text.proofs.Alls.{all_append}
 use Rattle.text.proofs.Splitting.{split_found, split_parts}
@@ -25,10 +27,10 @@ pub record Parts (t : List ℕ) (m : Pair) : Type 0 where
 
 some_if : {A : Type 0} (t : Bool) (x y : A) → cond t (Some x) None ≡ Some y → (t ≡ true) × (x ≡ y)
 some_if true x y e = (refl, cc)
-some_if false x y e = let z : ◌≡◌ {A = ℕ} 0 1 = cc in absurd (omega arith)
+some_if false x y e = absurd (cc)
 
 parts-by : (t : List ℕ) (m : Pair) (o : Option (List ℕ × List ℕ)) → split_once 0x3D t ≡ o → lawful_member o ≡ Some m → Parts t m
-parts-by t m None e h = let z : ◌≡◌ {A = ℕ} 0 1 = cc in absurd (omega arith)
+parts-by t m None e h = absurd (cc)
 parts-by t m (Some parts) e h =
     let got = some_if (is_key parts.0 && is_value parts.1) (pair parts) m h in
     let both = and_parts (is_key parts.0) (is_value parts.1) got.0 in
@@ -39,17 +41,14 @@ unfolding member_of
 member-parts t m e = parts-by t m (split_once 0x3D t) refl e
 
 -- a test that more bytes pass
-all_weaker : (p q : ℕ → Bool) → ((b : ℕ) → p b ≡ true → q b ≡ true) → (s : List ℕ) → all p s ≡ true → all q s ≡ true
-all_weaker p q f [] h = refl
-all_weaker p q f (b ∷ bs) h =
-    let parts = and_parts (p b) (all p bs) h in
-    and_from (q b) (all q bs) (f b parts.0) (all_weaker p q f bs parts.1)
+all_weaker : (p q : ℕ → Bool) → ((b : ℕ) → p b ≡ true → q b ≡ true) → (s : List ℕ) → list_all p s ≡ true → list_all q s ≡ true
+all_weaker p q f s h = list_all-from_AllPass q s (All-weaker (λ b. p b ≡ true) (λ b. q b ≡ true) f s (AllPass-from_list_all p s h))
 
 -- a part of a key
 record Part (most : ℕ) (s : List ℕ) : Type 0 where
   some : 0 < length s
   short : length s ≤ most
-  bytes : all tracestate_key s ≡ true
+  bytes : list_all tracestate_key s ≡ true
 
 part_is : (most : ℕ) (s : List ℕ) → is_part most s ≡ true → Part most s
 unfolding is_part
@@ -66,7 +65,7 @@ key_byte b = tracestate_key b || eqb b 0x40
 pub record Key (s : List ℕ) : Type 0 where
   pub some : 0 < length s
   pub short : length s ≤ 256
-  pub bytes : all key_byte s ≡ true
+  pub bytes : list_all key_byte s ≡ true
 
 part_byte : (b : ℕ) → tracestate_key b ≡ true → key_byte b ≡ true
 part_byte b e = or_left (tracestate_key b) (eqb b 0x40) e
@@ -82,11 +81,11 @@ key_by_lem s (Some parts) e h =
     let whole : s ≡ parts.0 ++ 0x40 ∷ parts.1 = (split_parts 0x40 s parts.0 parts.1 e).0 in
     let long : length s ≡ length parts.0 + (1 + length parts.1) = ap length whole ∙ length-append parts.0 (0x40 ∷ parts.1) ∙ omega arith in
     let front = all_weaker tracestate_key key_byte part_byte parts.0 p.bytes in
-    let back = and_from (key_byte 0x40) (all key_byte parts.1) (or_right (tracestate_key 0x40) true refl) (all_weaker tracestate_key key_byte part_byte parts.1 q.bytes) in
+    let back = and_from (key_byte 0x40) (list_all key_byte parts.1) (or_right (tracestate_key 0x40) true refl) (all_weaker tracestate_key key_byte part_byte parts.1 q.bytes) in
     record {
       some = omega (arith, p.some);
       short = omega (arith, p.short, q.short);
-      bytes = ap (all key_byte) whole ∙ all_append key_byte parts.0 (0x40 ∷ parts.1) front back;
+      bytes = ap (list_all key_byte) whole ∙ all_append key_byte parts.0 (0x40 ∷ parts.1) front back;
     }
 
 pub key_is : (s : List ℕ) → is_key s ≡ true → Key s
@@ -97,7 +96,7 @@ pub record Value (s : List ℕ) : Type 0 where
   pub some : 0 < length s
   pub short : length s ≤ 256
   pub end : space (get_or s (length s - 1) 0) ≡ false
-  pub bytes : all tracestate_value s ≡ true
+  pub bytes : list_all tracestate_value s ≡ true
 
 pub value_is : (s : List ℕ) → is_value s ≡ true → Value s
 unfolding is_value
@@ -117,12 +116,12 @@ member_sizes t m e =
 
 -- a test that all bytes of a member pass
 module _ (q : ℕ → Bool) (at_key : (b : ℕ) → key_byte b ≡ true → q b ≡ true) (at-equals : q 0x3D ≡ true) (at_value : (b : ℕ) → tracestate_value b ≡ true → q b ≡ true) where
-  member-all : (t : List ℕ) (m : Pair) → member_of t ≡ Some m → all q t ≡ true
+  member-all : (t : List ℕ) (m : Pair) → member_of t ≡ Some m → list_all q t ≡ true
   member-all t m e =
       let p = member-parts t m e in
       let front = all_weaker key_byte q at_key m.key (key_is m.key p.key-lawful).bytes in
       let back = all_weaker tracestate_value q at_value m.value (value_is m.value p.value-lawful).bytes in
-      ap (all q) p.whole ∙ all_append q m.key (0x3D ∷ m.value) front (and_from (q 0x3D) (all q m.value) at-equals back)
+      ap (list_all q) p.whole ∙ all_append q m.key (0x3D ∷ m.value) front (and_from (q 0x3D) (list_all q m.value) at-equals back)
 
 other_byte : (p : ℕ → Bool) (c : ℕ) → p c ≡ false → (b : ℕ) → p b ≡ true → other c b ≡ true
 other_byte p c no-c b e =
@@ -143,7 +142,7 @@ value-text : (b : ℕ) → tracestate_value b ≡ true → text b ≡ true
 unfolding text tracestate_value
 value-text b e = grind (arith, nat_tests)
 
-pub member-text : (t : List ℕ) (m : Pair) → member_of t ≡ Some m → all text t ≡ true
+pub member-text : (t : List ℕ) (m : Pair) → member_of t ≡ Some m → list_all text t ≡ true
 unfolding text
 member-text = member-all text key-text refl value-text
 
@@ -152,18 +151,13 @@ bare-front : (p : ℕ → Bool) (xs ys : List ℕ) → 0 < length xs → bare p 
 bare-front p [] ys h k = absurd (omega arith)
 bare-front p (x ∷ xs) ys h k = k
 
-bare-all : (p q : ℕ → Bool) → ((b : ℕ) → p b ≡ true → q b ≡ false) → (xs : List ℕ) → all p xs ≡ true → bare q xs ≡ true
+bare-all : (p q : ℕ → Bool) → ((b : ℕ) → p b ≡ true → q b ≡ false) → (xs : List ℕ) → list_all p xs ≡ true → bare q xs ≡ true
 bare-all p q f [] h = refl
-bare-all p q f (x ∷ xs) h = not_from_false (q x) (f x (and_parts (p x) (all p xs) h).0)
+bare-all p q f (x ∷ xs) h = not_from_false (q x) (f x (and_parts (p x) (list_all p xs) h).0)
 
 bare-at : (p : ℕ → Bool) (xs : List ℕ) → 0 < length xs → p (get_or xs 0 0) ≡ false → bare p xs ≡ true
 bare-at p [] h e = refl
 bare-at p (x ∷ xs) h e = not_from_false (p x) e
-
-all-at : (p : ℕ → Bool) (xs : List ℕ) (i : ℕ) → i < length xs → all p xs ≡ true → p (get_or xs i 0) ≡ true
-all-at p [] i h e = absurd (omega arith)
-all-at p (x ∷ xs) zero h e = (and_parts (p x) (all p xs) e).0
-all-at p (x ∷ xs) (suc i) h e = all-at p xs i (omega arith) (and_parts (p x) (all p xs) e).1
 
 key-bare : (b : ℕ) → key_byte b ≡ true → blank b ≡ false
 unfolding blank tracestate_key
@@ -177,7 +171,7 @@ value-bare : (v : List ℕ) → Value v → bare blank (reverse v) ≡ true
 value-bare v h =
     let last = length v - 1 in
     let mirror : get_or (reverse v) 0 0 ≡ get_or v last 0 = get_or-reverse v 0 0 h.some ∙ ap (λ k. get_or v k 0) (omega arith) in
-    let at-end : blank (get_or v last 0) ≡ false = end_bare (get_or v last 0) (all-at tracestate_value v last (omega (arith, h.some)) h.bytes) h.end in
+    let at-end : blank (get_or v last 0) ≡ false = end_bare (get_or v last 0) (AllPass-from_list_all tracestate_value v h.bytes last 0 (omega (arith, h.some))) h.end in
     bare-at blank (reverse v) (omega (arith, length-reverse v, h.some)) (ap blank mirror ∙ at-end)
 
 pub member-trimmed : (t : List ℕ) (m : Pair) → member_of t ≡ Some m → trimmed t ≡ t

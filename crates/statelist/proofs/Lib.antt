@@ -7,4 +7,5 @@ pub mod OwnMembers
 pub mod PassedMembers
 mod Places
 pub mod SettledMembers
+mod Turns
 pub mod WrittenLaws

@@ -17,7 +17,7 @@ use Rattle.statelist.proofs.LawfulMember.{dd-member}
 use Rattle.statelist.proofs.PassedMembers.{Members, pass_not-dd, pass_ot}
 
 agreed_step : (t u : Bool) (v : List ℕ) (o : Option (List ℕ)) → (t ≡ true → Some v ≡ o) → newer (cond u o None) (cond t (Some v) None) ≡ cond (t || u) o None
-agreed_step true u v None h = let z : ◌≡◌ {A = ℕ} 0 1 = cc (h refl) in absurd (omega arith)
+agreed_step true u v None h = absurd (cc (h refl))
 agreed_step true true v (Some w) h = refl
 agreed_step true false v (Some w) h = h refl
 agreed_step false true v None h = refl

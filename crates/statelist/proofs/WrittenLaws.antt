@@ -7,7 +7,8 @@ use Rattle.std.specs.Str.{bytes_eq}
 use Rattle.byte_classes.specs.Sets.{text}
 use Rattle.text.specs.Laws.{joined_by}
 use Rattle.text.specs.Splits.{pieces}
-use Rattle.text.specs.Texts.{all, lawful}
+use Rattle.std.specs.List.{list_all}
+use Rattle.text.specs.Texts.{lawful}
 use Rattle.tracestate.specs.Items.{has_key}
 use Rattle.tracestate.specs.Members.{pair, is_value, member_of}
 use Rattle.statelist.specs.Laws.{LawfulOt, member_texts, is_foreign, foreign_of, WrittenLawful, WrittenFits, ForeignKept, OwnReadBack, Settles}
@@ -59,7 +60,7 @@ written_fits dd ot list hd ho =
     let ts = written_members dd ot list in
     let w = written_are dd ot list ho in
     let long = written_length dd ot list ho in
-    let bytes = ap (λ l. all text (joined_by 0x2C l)) w.are ∙ joined-text (list-reads dd ot ts w hd) in
+    let bytes = ap (λ l. list_all text (joined_by 0x2C l)) w.are ∙ joined-text (list-reads dd ot ts w hd) in
     record {
       short = λ h. omega arith;
       text = and_from _ _ (le-leb (length (joined_by 0x2C ts)) 16384 (omega (arith, long, (value_is dd hd).short))) bytes;

@@ -1,7 +1,16 @@
 -- Which members a list that is carried gives to the one that is written, step by step. Assumes nothing.
 use Rattle.std.specs.Prelude.{ℕ, Bool, false, cond, List, Some, None, Option}
+use Rattle.std.specs.Option.{option_map}
 use Rattle.statelist.specs.Written.{passes, carries_ot}
+use Rattle.statelist.specs.declared.choose.Passing.{Passing}
 use Rattle.tracestate.specs.Members.{Pair}
+
+-- the ot value, and the list that was carried
+abbrev pub given : Passing → Option (List ℕ)
+given p = option_map (λ x. x.now) p.ot
+
+abbrev pub listed : Passing → Option (List ℕ)
+listed p = option_map (λ x. x.now) p.carried
 
 -- a piece is passed on if it is a member, and that is
 abbrev pub passes_on : Option (List ℕ) → Option Pair → Bool

@@ -1,4 +1,5 @@
 pub mod Choosing
 pub mod Laws
 pub mod Placing
+pub mod Writing
 pub mod Written

@@ -1,10 +1,5 @@
 -- A text in front of the work bytes. Assumes nothing.
-use Rattle.std.specs.Prelude.{◌≡◌, ℕ, ◌<◌, cond, List, [], ◌∷◌, ◌++◌, length, take, IfSome, Some, None, Option, nat_le}
-
--- the text stands in front of the work bytes, and the answer is its length; none if it is longer than they are
-abbrev pub Wrote : List ℕ → List ℕ → Option ℕ → Type 0
-Wrote text work None = length work < length text
-Wrote text work (Some n) = (n ≡ length text) × (take n work ≡ text)
+use Rattle.std.specs.Prelude.{◌≡◌, ℕ, cond, List, [], ◌∷◌, ◌++◌, length, take, IfSome, Some, None, Option, nat_le}
 
 -- members after others, each with a comma before it
 abbrev pub followed : List (List ℕ) → List ℕ

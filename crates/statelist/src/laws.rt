@@ -2,36 +2,26 @@
 ghost use Rattle.statelist.specs.Laws.{WrittenLawful, WrittenFits, ForeignKept, OwnReadBack, Settles};
 
 // A written list is a lawful tracestate with dd first, and its pieces are the members.
-pub fn written_is_lawful() -> u8
+pub fn written_is_lawful()
     ensures { WrittenLawful }
-{
-    0
-}
+{}
 
 // It fits a header value.
-pub fn written_fits() -> u8
+pub fn written_fits()
     ensures { WrittenFits }
-{
-    0
-}
+{}
 
 // The foreign members of the carried list stand in it, from the first on, up to 32 members.
-pub fn foreign_is_kept() -> u8
+pub fn foreign_is_kept()
     ensures { ForeignKept }
-{
-    0
-}
+{}
 
 // What was written of our own is read back.
-pub fn own_is_read_back() -> u8
+pub fn own_is_read_back()
     ensures { OwnReadBack }
-{
-    0
-}
+{}
 
 // What was read and is written again keeps all other members.
-pub fn settles() -> u8
+pub fn settles()
     ensures { Settles }
-{
-    0
-}
+{}

@@ -4,3 +4,4 @@
 mod choose;
 pub mod laws;
 pub mod write;
+mod writer;

@@ -4,6 +4,7 @@ pub mod Changing
 pub mod Cuts
 pub mod Heading
 pub mod Holding
+pub mod InUses
 pub mod Laying
 pub mod Lookups
 pub mod Orders

@@ -3,27 +3,27 @@ use Rattle.std.proofs.Common.{◌≡◌, ℕ, Bool, true, false, List, [], ◌�
 use Rattle.std.proofs.ByRecursion.{All-weaker}
 use Rattle.std.proofs.lemmas.Slice.Eq.{bytes_eq-Decides}
 use Rattle.std.proofs.lemmas.Bool.{and_parts, and_from, cond-true, cond-false}
-use Rattle.std.specs.List.{AllByRecursion}
+use Rattle.std.specs.List.{list_all, AllByRecursion}
 use Rattle.std.specs.Str.{bytes_eq}
 use Rattle.store.specs.Spots.{tag_of}
-use Rattle.store.specs.Tags.{Tag, before, below, above, looked, every, ascends}
+use Rattle.store.specs.Tags.{Tag, before, below, above, looked, ascends}
 use Rattle.store.proofs.Orders.{Trichotomy, first, same, last, trichotomy, before_trans, before-once, before_itself}
 
-pub every-all : {A : Type 0} (p : A → Bool) (xs : List A) → every p xs ≡ true → AllByRecursion (λ x. p x ≡ true) xs
+pub every-all : {A : Type 0} (p : A → Bool) (xs : List A) → list_all p xs ≡ true → AllByRecursion (λ x. p x ≡ true) xs
 every-all p [] h = tt
-every-all p (x ∷ xs) h = let parts = and_parts (p x) (every p xs) h in (parts.0, every-all p xs parts.1)
+every-all p (x ∷ xs) h = let parts = and_parts (p x) (list_all p xs) h in (parts.0, every-all p xs parts.1)
 
-pub all-every : {A : Type 0} (p : A → Bool) (xs : List A) → AllByRecursion (λ x. p x ≡ true) xs → every p xs ≡ true
+pub all-every : {A : Type 0} (p : A → Bool) (xs : List A) → AllByRecursion (λ x. p x ≡ true) xs → list_all p xs ≡ true
 all-every p [] h = refl
-all-every p (x ∷ xs) h = and_from (p x) (every p xs) h.0 (all-every p xs h.1)
+all-every p (x ∷ xs) h = and_from (p x) (list_all p xs) h.0 (all-every p xs h.1)
 
 pub ascends-parts : (t : Tag) (ts : List Tag) → ascends (t ∷ ts) ≡ true → AllByRecursion (λ u. before t.0 u.0 ≡ true) ts × (ascends ts ≡ true)
 unfolding ascends
-ascends-parts t ts h = let parts = and_parts (every (λ u. before t.0 u.0) ts) (ascends ts) h in (every-all _ ts parts.0, parts.1)
+ascends-parts t ts h = let parts = and_parts (list_all (λ u. before t.0 u.0) ts) (ascends ts) h in (every-all _ ts parts.0, parts.1)
 
 pub ascends_from : (t : Tag) (ts : List Tag) → AllByRecursion (λ u. before t.0 u.0 ≡ true) ts → ascends ts ≡ true → ascends (t ∷ ts) ≡ true
 unfolding ascends
-ascends_from t ts a b = and_from (every (λ u. before t.0 u.0) ts) (ascends ts) (all-every _ ts a) b
+ascends_from t ts a b = and_from (list_all (λ u. before t.0 u.0) ts) (ascends ts) (all-every _ ts a) b
 
 not-true : (b : Bool) → (b ≡ true → ⊥) → b ≡ false
 not-true true n = absurd (n refl)

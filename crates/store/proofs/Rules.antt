@@ -11,7 +11,7 @@ use Rattle.store.specs.Spots.{tag_of}
 use Rattle.store.specs.Stores.{held}
 use Rattle.store.specs.Tags.{Tag, below, above, flat, placed, without, looked}
 use Rattle.store.proofs.Answering.{fits_from, fits-not-tags, fits-not-bytes, accepted, refused_full, refused_unlawful}
-use Rattle.store.proofs.Holding.{held_lies, held-sound, held_count, held_used, count_within, used_within}
+use Rattle.store.proofs.Holding.{held_lies, held-sound, held_count, held_used, bounds}
 use Rattle.store.proofs.Lookups.{looked-placed, looked-without, others-placed, others-without, same_looks, placed-back}
 use Rattle.store.proofs.Parting.{parted}
 use Rattle.store.proofs.Sizes.{fits-parts, flat_size, text_size}
@@ -26,7 +26,7 @@ held_orderly s =
     let good : Sound (held s) = held-sound s in
     let lies = held_lies s in
     record {
-      keepable = (sound_from (held s) good, fits_from (held s) (omega (arith, lies.tags-limit, held_count s, count_within s)) (omega (arith, lies.bytes-limit, held_used s, used_within s)));
+      keepable = (sound_from (held s) good, fits_from (held s) (omega (arith, lies.tags-limit, held_count s, (bounds s).count)) (omega (arith, lies.bytes-limit, held_used s, (bounds s).used)));
       ascending = λ i j t u l e f. walk_ascends (held s).tags i j t u good.order l e f;
       once = λ i j t u e f g. walk_once (held s).tags i j t u good.order e f g;
       shown = λ i t e. walk_shown (held s).tags i t good.order e;
@@ -34,8 +34,8 @@ held_orderly s =
       lawful_tag = λ k v e. looked-lawful k v (held s).tags good.lawful-tags e;
       lawful_origin = λ o e. some-text (held s).origin o e good.lawful_origin;
       lawful_ot = λ o e. some-text (held s).ot o e good.lawful_ot;
-      tags_within = omega (arith, lies.tags-limit, held_count s, count_within s);
-      bytes_within = omega (arith, lies.bytes-limit, held_used s, used_within s);
+      tags_within = omega (arith, lies.tags-limit, held_count s, (bounds s).count);
+      bytes_within = omega (arith, lies.bytes-limit, held_used s, (bounds s).used);
       few = omega (arith, lies.tags-limit, s.small.0);
       small = omega (arith, lies.bytes-limit, s.small.1);
     }

@@ -1,8 +1,8 @@
 -- What a store may hold, part by part, and changes that keep it so. Assumes nothing.
-use Rattle.std.proofs.Common.{◌≡◌, ℕ, true, ◌&&◌, List, [], Option, unwrap_or}
+use Rattle.std.proofs.Common.{◌≡◌, ℕ, true, ◌&&◌, List, [], Option, unwrap_or, refl}
 use Rattle.std.proofs.lemmas.Bool.{and_parts, and_from}
 use Rattle.text.specs.Texts.{lawful}
-use Rattle.store.specs.Contents.{Contents, sound, with_tags, with_origin, with_ot}
+use Rattle.store.specs.Contents.{Contents, empty, sound, with_tags, with_origin, with_ot}
 use Rattle.store.specs.Tags.{ascends, all_lawful, placed, without}
 use Rattle.store.proofs.Ascending.{ascends-placed, ascends-without, lawful-placed, lawful-without}
 
@@ -11,6 +11,10 @@ pub record Sound (c : Contents) : Type 0 where
   pub lawful-tags : all_lawful c.tags ≡ true
   pub lawful_origin : lawful (unwrap_or c.origin []) ≡ true
   pub lawful_ot : lawful (unwrap_or c.ot []) ≡ true
+
+pub sound_empty : (tags bytes : ℕ) → Sound (empty tags bytes)
+unfolding ascends all_lawful lawful
+sound_empty tags bytes = record { order = refl; lawful-tags = refl; lawful_origin = refl; lawful_ot = refl }
 
 module _ (c : Contents) where
   pub sound-parts : sound c ≡ true → Sound c

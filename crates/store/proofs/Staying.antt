@@ -3,15 +3,15 @@ use Rattle.std.proofs.Common.{◌≡◌, ℕ, ◌+◌, Bool, true, false, cond, 
 use Rattle.std.proofs.lemmas.List.{length-append}
 use Rattle.std.proofs.lemmas.Bool.{and_parts}
 use Rattle.text.specs.Texts.{lawful}
-use Rattle.store.specs.Contents.{Contents, empty, with_tags, with_origin, with_ot, fits, sound, after_put, after_remove, after_origin, after_ot}
+use Rattle.store.specs.Contents.{Contents, empty, with_tags, with_origin, with_ot, fits, after_put, after_remove, after_origin, after_ot}
 use Rattle.store.specs.Laws.{Keepable, StaysSound}
 use Rattle.store.specs.Spots.{tag_of}
-use Rattle.store.specs.Tags.{Tag, below, above, flat, placed, without, looked, ascends, all_lawful}
+use Rattle.store.specs.Tags.{Tag, below, above, flat, placed, without, looked}
 use Rattle.store.proofs.Answering.{fits_from}
 use Rattle.store.proofs.Laying.{flat_append}
 use Rattle.store.proofs.Parting.{parted}
 use Rattle.store.proofs.Sizes.{fits-parts, text_size}
-use Rattle.store.proofs.Sounds.{Sound, sound-parts, sound_from, sound-placed, sound-without, sound-origin, sound-ot}
+use Rattle.store.proofs.Sounds.{Sound, sound-parts, sound_from, sound_empty, sound-placed, sound-without, sound-origin, sound-ot}
 
 either_keepable : (t : Bool) (next c : Contents) → (t ≡ true → Keepable next) → Keepable c → Keepable (cond t next c)
 either_keepable true next c a b = a refl
@@ -72,8 +72,7 @@ keepable-remove c k (s, f) =
     (sound_from next (sound-without c good k), fits_from next (omega arith) (omega arith))
 
 at_first : (tags bytes : ℕ) → Keepable (empty tags bytes)
-unfolding sound ascends all_lawful lawful
-at_first tags bytes = (refl, fits_from (empty tags bytes) (omega arith) (omega arith))
+at_first tags bytes = (sound_from (empty tags bytes) (sound_empty tags bytes), fits_from (empty tags bytes) (omega arith) (omega arith))
 
 pub stays_sound : StaysSound
 stays_sound = record { at_first = at_first; put = keepable-put; remove = keepable-remove; origin = keepable-origin; ot = keepable-ot }

@@ -1,5 +1,5 @@
 -- What a store is to its caller, and what each call answers and leaves. Assumes nothing.
-use Rattle.std.specs.Prelude.{ℕ, Bool, true, false, cond, ◌&&◌, List, [], ◌++◌, length, None, Ok, Err, Option, Result, nat_le}
+use Rattle.std.specs.Prelude.{ℕ, Bool, true, false, cond, ◌&&◌, List, [], ◌++◌, length, None, codes, Ok, Err, Option, Result, nat_le}
 use Rattle.std.specs.Option.{unwrap_or}
 use Rattle.text.specs.Texts.{lawful}
 use Rattle.store.specs.declared.faults.StoreFault.{StoreFault}
@@ -10,6 +10,11 @@ use Rattle.store.specs.Tags.{Tag, flat, placed, without, ascends, all_lawful}
 abbrev pub number : StoreFault → ℕ
 number Unlawful = 10
 number Full = 11
+
+-- what it says
+abbrev pub fault_text : StoreFault → List ℕ
+fault_text Unlawful = codes "unlawful text"
+fault_text Full = codes "memory too small"
 
 -- the limits of a store, and what it holds: an origin, an ot value that was given, and tags
 pub record Contents : Type 0 where

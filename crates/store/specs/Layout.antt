@@ -23,21 +23,20 @@ tags_in (s ∷ ss) xs = (take s.key xs, take s.value (drop s.key xs)) ∷ tags_i
 abbrev pub body : List ℕ → Option ℕ → Option ℕ → List ℕ
 body text origin ot = drop (unwrap_or origin 0 + unwrap_or ot 0) text
 
--- the contents of a memory
-abbrev pub contents : List Span → List ℕ → ℕ → Option ℕ → Option ℕ → Contents
-contents spans text count origin ot = record {
-  max_tags = length spans;
-  max_bytes = length text;
+-- the contents of a memory, by the lengths and the text in use and how many there may be
+abbrev pub contents : List Span → List ℕ → ℕ → ℕ → Option ℕ → Option ℕ → Contents
+contents spans text tags bytes origin ot = record {
+  max_tags = tags;
+  max_bytes = bytes;
   origin = option_map (λ n. take n text) origin;
   ot = option_map (λ n. take n (drop (unwrap_or origin 0) text)) ot;
-  tags = tags_in (take count spans) (body text origin ot);
+  tags = tags_in spans (body text origin ot);
 }
 
 -- the memory is within the limits of a store
-abbrev pub Small : List Span → List ℕ → Type 0
-Small spans text = (length spans ≤ 256) × (length text ≤ 65536)
+abbrev pub Small : ℕ → ℕ → Type 0
+Small tags bytes = (tags ≤ 256) × (bytes ≤ 65536)
 
--- the lengths add up, and lie within the memory
-abbrev pub Laid : List Span → List ℕ → ℕ → ℕ → Option ℕ → Option ℕ → Type 0
-Laid spans text count used origin ot =
-    (count ≤ length spans) × (used ≤ length text) × ((unwrap_or origin 0 + unwrap_or ot 0) + total (take count spans) ≡ used)
+-- the lengths add up to the text in use
+abbrev pub Laid : List Span → List ℕ → Option ℕ → Option ℕ → Type 0
+Laid spans text origin ot = (unwrap_or origin 0 + unwrap_or ot 0) + total spans ≡ length text

@@ -4,3 +4,5 @@ pub mod Layout
 pub mod Spots
 pub mod Stores
 pub mod Tags
+pub mod Uses
+pub mod Walks

@@ -1,5 +1,6 @@
 -- Tags: keys with values, in ascending byte order of the keys. Assumes nothing.
 use Rattle.std.specs.Prelude.{ℕ, Bool, true, false, cond, ◌&&◌, ◌||◌, List, [], ◌∷◌, ◌++◌, Some, None, filter, Option, ◌==◌, nat_lt}
+use Rattle.std.specs.List.{list_all}
 use Rattle.std.specs.Str.{bytes_eq}
 use Rattle.text.specs.Texts.{lawful}
 
@@ -34,19 +35,14 @@ unfoldable pub looked : List ℕ → List Tag → Option (List ℕ)
 looked k [] = None
 looked k (t ∷ ts) = cond (bytes_eq t.0 k) (Some t.1) (looked k ts)
 
--- every element passes the test
-abbrev pub every : {A : Type 0} → (A → Bool) → List A → Bool
-every p [] = true
-every p (x ∷ xs) = p x && every p xs
-
 -- each key comes before all that follow it, so that no two are the same
 unfoldable pub ascends : List Tag → Bool
 ascends [] = true
-ascends (t ∷ ts) = every (λ u. before t.0 u.0) ts && ascends ts
+ascends (t ∷ ts) = list_all (λ u. before t.0 u.0) ts && ascends ts
 
 -- keys and values are lawful text
 unfoldable pub all_lawful : List Tag → Bool
-all_lawful ts = every (λ t. lawful t.0 && lawful t.1) ts
+all_lawful ts = list_all (λ t. lawful t.0 && lawful t.1) ts
 
 -- the keys and values one after the other
 abbrev pub flat : List Tag → List ℕ

@@ -1,6 +1,7 @@
 // Why a store refuses.
-ghost use Rattle.std.specs.Prelude.{◌≡◌};
-ghost use Rattle.store.specs.Contents.{number};
+use refusal::Refusal;
+use std::error::Error;
+use std::fmt;
 
 // Unlawful text, or memory too small for what it would then hold.
 #[derive(Clone, Copy, PartialEq, Eq, Debug)]
@@ -9,11 +10,32 @@ pub enum StoreFault {
     Full = 11,
 }
 
-impl StoreFault {
-    // The refusal's number.
-    pub fn number(self) -> u8
-        ensures { result ≡ number self }
-    {
+impl Refusal for StoreFault {
+    ghost use Rattle.std.proofs.Common.{lit≤};
+    ghost use Rattle.store.specs.declared.faults.StoreFault.TheVariants.{Unlawful, Full};
+    ghost use Rattle.store.specs.Contents.{number};
+
+    ghost code = { number };
+
+    fn number(self) -> u8 {
         self as u8
     }
+
+    ghost in_range = { elim [ Unlawful ↦ (lit≤ tt, lit≤ tt) | Full ↦ (lit≤ tt, lit≤ tt) ] };
 }
+
+impl fmt::Display for StoreFault {
+    ghost use Rattle.std.specs.Prelude.{Some};
+    ghost use Rattle.store.specs.Contents.{fault_text};
+
+    ghost output = { λ f. Some (fault_text f) };
+
+    fn fmt<W: fmt::Write>(&self, f: &mut fmt::Formatter<W>) -> fmt::Result {
+        f.write_str(match self {
+            StoreFault::Unlawful => "unlawful text",
+            StoreFault::Full => "memory too small",
+        })
+    }
+}
+
+impl Error for StoreFault {}

@@ -2,7 +2,6 @@
 #![tactic(auto)]
 
 pub mod faults;
+mod in_use;
 pub mod laws;
 pub mod memory;
-mod order;
-mod splice;

@@ -3,7 +3,6 @@ use std::alloc::{AllocError, Global};
 use std::test::Fail;
 use store::faults::*;
 use store::memory::*;
-use text::check::same;
 
 fn store_of(heap: Global, records: usize, bytes: usize) -> Result<Store, AllocError> {
     Ok(Store::new(
@@ -13,17 +12,11 @@ fn store_of(heap: Global, records: usize, bytes: usize) -> Result<Store, AllocEr
 }
 
 fn has(store: &Store, key: &[u8], value: &[u8]) -> bool {
-    match store.get(key) {
-        Some(held) => same(held, value),
-        None => false,
-    }
+    store.get(key).is_some_and(|held| held == value)
 }
 
 fn stands(store: &Store, at: usize, key: &[u8]) -> bool {
-    match store.key_at(at) {
-        Some(held) => same(held, key),
-        None => false,
-    }
+    store.key_at(at).is_some_and(|held| held == key)
 }
 
 #[test]

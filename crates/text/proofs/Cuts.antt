@@ -1,6 +1,6 @@
 -- A text parted at its first `c`: by places, and as the first of its pieces. Assumes nothing.
-use Rattle.std.proofs.Common.{◌≡◌, ℕ, suc, ◌+◌, ◌-◌, ◌<◌, ◌≤◌, Bool, true, false, cond, not, eqb, List, [], ◌∷◌, length, take, drop, Some, None, Option, sym, refl, ap, ◌∙◌, add-one, one-add, arith}
-use Rattle.std.proofs.lemmas.List.{take_rest}
+use Rattle.std.proofs.Common.{◌==◌, nat_lt, position, ◌≡◌, ℕ, suc, ◌+◌, ◌<◌, ◌≤◌, Bool, true, false, cond, not, eqb, List, [], ◌∷◌, length, take, drop, Some, None, Option, sym, refl, ap, ◌∙◌, add-one, one-add, arith}
+use Rattle.std.proofs.lemmas.Bool.Decides.{nat_tests}
 use Rattle.std.specs.Option.{option_map}
 use Rattle.text.specs.Splits.{first_at, after, split_once, on_first, pieces}
 
@@ -20,13 +20,6 @@ unfolding split_once
 split_found c [] h = absurd (omega arith)
 split_found c (b ∷ bs) h = placed (eqb b c) b (first_at c bs) bs (split_once c bs) h (split_found c bs)
 
--- the same, of the two parts as the code cuts them
-pub split_cut : (c : ℕ) (s : List ℕ) (n : ℕ) → n ≡ first_at c s → n < length s → Some (take (n - 0) s, take (length s - (n + 1)) (drop (n + 1) s)) ≡ split_once c s
-split_cut c s n e h =
-    let whole : n - 0 ≡ n = omega arith in
-    let found : split_once c s ≡ parted n s = split_found c s (omega arith) ∙ ap (λ k. parted k s) (sym e) in
-    (λ i. Some (take (whole i) s, take_rest s (n + 1) i)) ∙ sym found
-
 absent : (t : Bool) (b n : ℕ) (bs : List ℕ) (o : Parts) → suc (length bs) ≤ cond (not t) (1 + n) 0 → (length bs ≤ n → o ≡ None) → cond t (Some ([], bs)) (option_map (after b) o) ≡ None
 absent true b n bs o h more = absurd (omega arith)
 absent false b n bs o h more = ap (option_map (after b)) (more (omega arith))
@@ -35,6 +28,14 @@ pub split_none : (c : ℕ) (s : List ℕ) → length s ≤ first_at c s → spli
 unfolding split_once
 split_none c [] h = refl
 split_none c (b ∷ bs) h = absent (eqb b c) b (first_at c bs) bs (split_once c bs) h (split_none c bs)
+
+placed_cut : (c : ℕ) (s : List ℕ) (t : Bool) → nat_lt (first_at c s) (length s) ≡ t → split_once c s ≡ option_map (λ at. (take at s, drop (at + 1) s)) (cond t (Some (first_at c s)) None)
+placed_cut c s true e = split_found c s (grind (arith, nat_tests))
+placed_cut c s false e = split_none c s (grind (arith, nat_tests))
+
+-- the two parts, from the place of the first `c`
+pub split-position : (c : ℕ) (s : List ℕ) → split_once c s ≡ option_map (λ at. (take at s, drop (at + 1) s)) (position (λ b. b == c) s)
+split-position c s = placed_cut c s (nat_lt (first_at c s) (length s)) refl
 
 -- the pieces of a text, from its two parts
 abbrev pub by_parts : ℕ → List ℕ → Parts → List (List ℕ)

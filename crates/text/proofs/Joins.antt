@@ -1,10 +1,9 @@
 -- Pieces and the text that they make up: there and back. Assumes nothing.
 use Rattle.std.proofs.Common.{◌≡◌, ℕ, Bool, true, false, cond, not, ◌&&◌, eqb, List, [], ◌∷◌, ◌++◌, sym, refl, ap, ◌∙◌}
 use Rattle.std.proofs.lemmas.Bool.{eqb-true, eq-eqb, and_parts, cond-true, cond-false, not-true}
-use Rattle.std.specs.List.{AllByRecursion}
+use Rattle.std.specs.List.{AllByRecursion, list_all}
 use Rattle.text.specs.Laws.{Lacks, joined_by, PiecesJoin, PiecesOnly}
 use Rattle.text.specs.Splits.{other, on_first, pieces}
-use Rattle.text.specs.Texts.{all}
 
 -- one byte more on the first of some pieces
 joined_more : (c b : ℕ) (p : List ℕ) (ps : List (List ℕ)) → joined_by c (on_first b (p ∷ ps)) ≡ b ∷ joined_by c (p ∷ ps)
@@ -34,7 +33,7 @@ split_more false c b bs ps e h =
       others = h.others;
       are = ap (on_first b) h.are;
       join = joined_more c b h.first h.others ∙ ap (λ s. b ∷ s) h.join;
-      lack = (ap (λ t. not t && all (other c) h.first) e ∙ h.lack.0, h.lack.1);
+      lack = (ap (λ t. not t && list_all (other c) h.first) e ∙ h.lack.0, h.lack.1);
     }
 
 splits : (c : ℕ) (s : List ℕ) → Split c s (pieces c s)
@@ -50,14 +49,14 @@ pub pieces-front : (c : ℕ) (p s : List ℕ) → Lacks c p → pieces c (p ++ c
 unfolding pieces
 pieces-front c [] s h = cond-true (eqb c c) ([] ∷ pieces c s) (on_first c (pieces c s)) (eq-eqb c c refl)
 pieces-front c (b ∷ bs) s h =
-    let parts = and_parts (other c b) (all (other c) bs) h in
+    let parts = and_parts (other c b) (list_all (other c) bs) h in
     cond-false (eqb b c) ([] ∷ pieces c (bs ++ c ∷ s)) (on_first b (pieces c (bs ++ c ∷ s))) (not-true (eqb b c) parts.0) ∙ ap (on_first b) (pieces-front c bs s parts.1)
 
 pub pieces_one : (c : ℕ) (p : List ℕ) → Lacks c p → pieces c p ≡ p ∷ []
 unfolding pieces
 pieces_one c [] h = refl
 pieces_one c (b ∷ bs) h =
-    let parts = and_parts (other c b) (all (other c) bs) h in
+    let parts = and_parts (other c b) (list_all (other c) bs) h in
     cond-false (eqb b c) ([] ∷ pieces c bs) (on_first b (pieces c bs)) (not-true (eqb b c) parts.0) ∙ ap (on_first b) (pieces_one c bs parts.1)
 
 pub pieces_only : PiecesOnly

@@ -1,7 +1,7 @@
 -- One byte more is replaced or kept. Assumes nothing.
-use Rattle.std.proofs.Common.{◌≡◌, ℕ, ◌+◌, ◌<◌, ◌≤◌, Bool, true, false, List, ◌++◌, map, length, get_or, take, drop, set, sym, ap, ◌∙◌, append-nil}
+use Rattle.std.proofs.Common.{◌≡◌, ℕ, ◌+◌, ◌<◌, Bool, true, false, List, ◌++◌, map, length, get_or, take, drop, set, sym, ap, ◌∙◌}
 use Rattle.std.proofs.lemmas.List.Edits.{map_over_more}
-use Rattle.std.proofs.lemmas.List.{get_or_default, take_all, drop_all}
+use Rattle.std.proofs.lemmas.List.{get_or_default}
 use Rattle.std.proofs.lemmas.Bool.{cond-true, cond-false}
 use Rattle.text.specs.Texts.{replaced}
 
@@ -18,6 +18,3 @@ module _ (p : ℕ → Bool) (by : ℕ) (xs ys : List ℕ) (i : ℕ) where
 
   pub kept_more : i < length xs → i < length ys → Done ys i → p (get_or ys i 0) ≡ false → Done (set ys i (get_or ys i 0)) (i + 1)
   kept_more h k inv e = ap (set ys i) (sym (cond-false (p (get_or ys i 0)) by (get_or ys i 0) e)) ∙ written h k inv
-
-  pub replaced-all : length xs ≤ i → Done ys i → ys ≡ map (replaced p by) xs
-  replaced-all h inv = inv ∙ (λ j. map (replaced p by) (take_all i xs h j) ++ drop_all i xs h j) ∙ append-nil _

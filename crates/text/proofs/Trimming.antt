@@ -3,18 +3,17 @@ use Rattle.std.proofs.Common.{◌≡◌, ℕ, ◌+◌, ◌-◌, Bool, true, fals
 use mathlib.Core.List.{reverse-append, reverse-reverse}
 use Rattle.std.proofs.lemmas.List.{take_at, drop_at, take-append-drop, length-reverse}
 use Rattle.std.proofs.lemmas.Bool.{and_parts, not-true, cond-true, cond-false}
-use Rattle.std.specs.List.{prefix_len}
+use Rattle.std.specs.List.{prefix_len, list_all}
 use Rattle.byte_classes.specs.Sets.{blank}
 use Rattle.text.specs.Laws.{bare, TrimIs, TrimOnly}
-use Rattle.text.specs.Texts.{all}
 use Rattle.text.specs.Trims.{without_front, without_back, trimmed}
 use Rattle.text.proofs.Alls.{all_append, all-reverse}
 
 module _ (p : ℕ → Bool) where
-  leading_front : (xs ys : List ℕ) → all p xs ≡ true → prefix_len p (xs ++ ys) ≡ length xs + prefix_len p ys
+  leading_front : (xs ys : List ℕ) → list_all p xs ≡ true → prefix_len p (xs ++ ys) ≡ length xs + prefix_len p ys
   leading_front [] ys h = omega arith
   leading_front (x ∷ xs) ys h =
-      let parts = and_parts (p x) (all p xs) h in
+      let parts = and_parts (p x) (list_all p xs) h in
       cond-true (p x) (1 + prefix_len p (xs ++ ys)) 0 parts.0 ∙ omega (arith, leading_front xs ys parts.1)
 
   leading_bare : (xs : List ℕ) → bare p xs ≡ true → prefix_len p xs ≡ 0
@@ -22,18 +21,18 @@ module _ (p : ℕ → Bool) where
   leading_bare (x ∷ xs) h = cond-false (p x) (1 + prefix_len p xs) 0 (not-true (p x) h)
 
   -- the front that passes is taken off whole
-  pub front_off : (xs ys : List ℕ) → all p xs ≡ true → bare p ys ≡ true → without_front p (xs ++ ys) ≡ ys
+  pub front_off : (xs ys : List ℕ) → list_all p xs ≡ true → bare p ys ≡ true → without_front p (xs ++ ys) ≡ ys
   unfolding without_front
   front_off xs ys h k =
       let n : length xs ≡ prefix_len p (xs ++ ys) = omega (arith, leading_front xs ys h, leading_bare ys k) in
       drop_at xs ys (prefix_len p (xs ++ ys)) n
 
-  front-step : (t : Bool) (x : ℕ) (xs : List ℕ) (n : ℕ) → p x ≡ t → (all p (take n xs) ≡ true) × (bare p (drop n xs) ≡ true) → (all p (take (cond t (1 + n) 0) (x ∷ xs)) ≡ true) × (bare p (drop (cond t (1 + n) 0) (x ∷ xs)) ≡ true)
-  front-step true x xs n e h = rw one-add (ap (λ t. t && all p (take n xs)) e ∙ h.0, h.1)
+  front-step : (t : Bool) (x : ℕ) (xs : List ℕ) (n : ℕ) → p x ≡ t → (list_all p (take n xs) ≡ true) × (bare p (drop n xs) ≡ true) → (list_all p (take (cond t (1 + n) 0) (x ∷ xs)) ≡ true) × (bare p (drop (cond t (1 + n) 0) (x ∷ xs)) ≡ true)
+  front-step true x xs n e h = rw one-add (ap (λ t. t && list_all p (take n xs)) e ∙ h.0, h.1)
   front-step false x xs n e h = (refl, ap not e)
 
   -- it passes, and what is left does not begin with more of it
-  pub front-passes : (xs : List ℕ) → (all p (take (prefix_len p xs) xs) ≡ true) × (bare p (drop (prefix_len p xs) xs) ≡ true)
+  pub front-passes : (xs : List ℕ) → (list_all p (take (prefix_len p xs) xs) ≡ true) × (bare p (drop (prefix_len p xs) xs) ≡ true)
   front-passes [] = (refl, refl)
   front-passes (x ∷ xs) = front-step (p x) x xs (prefix_len p xs) refl (front-passes xs)
 
@@ -50,7 +49,7 @@ module _ (p : ℕ → Bool) where
   unfolding without_back without_front
   back_mirrored s = mirrored (prefix_len p (reverse s)) s
 
-  pub back_off : (xs ys : List ℕ) → bare p (reverse xs) ≡ true → all p ys ≡ true → without_back p (xs ++ ys) ≡ xs
+  pub back_off : (xs ys : List ℕ) → bare p (reverse xs) ≡ true → list_all p ys ≡ true → without_back p (xs ++ ys) ≡ xs
   back_off xs ys h k =
       back_mirrored (xs ++ ys) ∙ ap (λ l. reverse (without_front p l)) (reverse-append xs ys)
       ∙ ap reverse (front_off (reverse ys) (reverse xs) (all-reverse p ys k) h) ∙ reverse-reverse xs
@@ -62,7 +61,7 @@ module _ (p : ℕ → Bool) where
   record Ends (s t : List ℕ) : Type 0 where
     back : List ℕ
     whole : s ≡ t ++ back
-    passes : all p back ≡ true
+    passes : list_all p back ≡ true
     is_bare : bare p (reverse t) ≡ true
 
   ends : (s : List ℕ) → Ends s (without_back p s)
@@ -96,13 +95,13 @@ trim_is s =
       ends_bare = e.is_bare;
     }
 
-nothing_left : (front back : List ℕ) → all blank front ≡ true → all blank back ≡ true → trimmed (front ++ back) ≡ []
+nothing_left : (front back : List ℕ) → list_all blank front ≡ true → list_all blank back ≡ true → trimmed (front ++ back) ≡ []
 unfolding trimmed
 nothing_left front back h k =
     let all-off : without_front blank (front ++ back) ≡ [] = ap (without_front blank) (sym (append-nil (front ++ back))) ∙ front_off blank (front ++ back) [] (all_append blank front back h k) refl in
     ap (without_back blank) all-off ∙ back_off blank [] [] refl refl
 
-only : (front t back : List ℕ) → all blank front ≡ true → all blank back ≡ true → bare blank t ≡ true → bare blank (reverse t) ≡ true → t ≡ trimmed (front ++ (t ++ back))
+only : (front t back : List ℕ) → list_all blank front ≡ true → list_all blank back ≡ true → bare blank t ≡ true → bare blank (reverse t) ≡ true → t ≡ trimmed (front ++ (t ++ back))
 unfolding trimmed
 only front [] back f k h e = sym (nothing_left front back f k)
 only front (b ∷ bs) back f k h e = sym (ap (without_back blank) (front_off blank front (b ∷ (bs ++ back)) f h) ∙ back_off blank (b ∷ bs) back e k)

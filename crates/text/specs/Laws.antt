@@ -1,11 +1,10 @@
 -- What the parts of a text are, without saying how they are found: each relation has one solution, and the definitions give it.
 -- Assumes nothing.
 use Rattle.std.specs.Prelude.{◌≡◌, ℕ, Bool, true, not, List, [], ◌∷◌, ◌++◌, reverse, Some, None}
-use Rattle.std.specs.List.{AllByRecursion}
+use Rattle.std.specs.List.{AllByRecursion, list_all}
 use Rattle.byte_classes.specs.Sets.{blank}
 use Rattle.text.specs.Splits.{other, split_once, pieces}
 use Rattle.text.specs.Takes.{stripped}
-use Rattle.text.specs.Texts.{all}
 use Rattle.text.specs.Trims.{trimmed}
 
 -- no byte in front that passes
@@ -18,8 +17,8 @@ pub record Trims (s t : List ℕ) : Type 0 where
   pub front : List ℕ
   pub back : List ℕ
   pub whole : s ≡ front ++ (t ++ back)
-  pub front_blank : all blank front ≡ true
-  pub back_blank : all blank back ≡ true
+  pub front_blank : list_all blank front ≡ true
+  pub back_blank : list_all blank back ≡ true
   pub starts_bare : bare blank t ≡ true
   pub ends_bare : bare blank (reverse t) ≡ true
 
@@ -31,7 +30,7 @@ TrimOnly = (s t : List ℕ) → Trims s t → t ≡ trimmed s
 
 -- a text without the byte `c`
 abbrev pub Lacks : ℕ → List ℕ → Type 0
-Lacks c s = all (other c) s ≡ true
+Lacks c s = list_all (other c) s ≡ true
 
 -- a text is parted where its first `c` stands, and only there
 abbrev pub SplitFound : Type 0

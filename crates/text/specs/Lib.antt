@@ -1,5 +1,6 @@
 pub mod Appends
 pub mod Cursors
+pub mod Inlines
 pub mod Laws
 pub mod Splits
 pub mod Takes

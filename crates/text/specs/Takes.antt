@@ -3,7 +3,7 @@ use Rattle.std.specs.Prelude.{ℕ, cond, ◌&&◌, List, [], ◌∷◌, length, 
 use Rattle.std.specs.Borrow.{Bor}
 use Rattle.std.specs.Str.{bytes_eq}
 use Rattle.byte_classes.specs.Sets.{hex}
-use Rattle.text.specs.Texts.{all}
+use Rattle.std.specs.List.{list_all}
 
 -- what two parts of a text hold
 abbrev pub both : Bor (List ℕ) × Bor (List ℕ) → List ℕ × List ℕ
@@ -16,7 +16,7 @@ taken_char c (b ∷ bs) = cond (b == c) (Some bs) None
 
 -- the first n bytes, if all are lower-case hexadecimal digits, and the rest
 unfoldable pub taken_hex : ℕ → List ℕ → Option (List ℕ × List ℕ)
-taken_hex n s = cond (nat_le n (length s) && all hex (take n s)) (Some (take n s, drop n s)) None
+taken_hex n s = cond (nat_le n (length s) && list_all hex (take n s)) (Some (take n s, drop n s)) None
 
 -- the rest, if the text begins with the prefix
 unfoldable pub stripped : List ℕ → List ℕ → Option (List ℕ)

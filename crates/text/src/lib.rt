@@ -3,6 +3,7 @@
 
 pub mod append;
 pub mod check;
+pub mod inline;
 pub mod laws;
 pub mod pieces;
 pub mod replace;

@@ -1,7 +1,7 @@
 // The pieces of a text between separators, one after the other.
-ghost use Rattle.std.specs.Prelude.{◌≡◌, ◌<◌, length, OnSome};
-ghost use Rattle.std.specs.Option.{option_map};
-ghost use Rattle.text.specs.Cursors.{left, first_of, others_of};
+ghost use Rattle.std.specs.Prelude.{◌≡◌};
+ghost use Rattle.std.specs.Iterator.{YieldsFirstRef, item_count};
+ghost use Rattle.text.specs.Cursors.{left};
 ghost use Rattle.text.specs.Splits.{pieces};
 
 use crate::split::split_once;
@@ -22,23 +22,22 @@ impl<'a> Pieces<'a> {
             separator,
         }
     }
+}
+
+impl<'a> Iterator for Pieces<'a> {
+    type Item = &'a [u8];
+
+    ghost next_gives = { YieldsFirstRef left };
+
+    ghost remaining = { item_count left };
 
     // The next piece; none once all were given.
-    pub fn next(&mut self) -> Option<&'a [u8]>
-        ensures piece { option_map (λ x. x.now) result ≡ first_of (left self.old) }
-        ensures after { left self.new ≡ others_of (left self.old) }
-        ensures fewer { OnSome result (length (left self.new) < length (left self.old)) }
-    {
-        let text = self.rest?;
-        match split_once(text, self.separator) {
-            Some((piece, rest)) => {
-                self.rest = Some(rest);
-                Some(piece)
-            }
-            None => {
-                self.rest = None;
-                Some(text)
-            }
-        }
+    fn next(&mut self) -> Option<&'a [u8]> {
+        let text = self.rest.take()?;
+        let Some((piece, rest)) = split_once(text, self.separator) else {
+            return Some(text);
+        };
+        self.rest = Some(rest);
+        Some(piece)
     }
 }

@@ -1,5 +1,5 @@
 // A text without the bytes of a set at its ends.
-ghost use Rattle.std.specs.Prelude.{◌≡◌, ◌-◌, ◌≤◌, length};
+ghost use Rattle.std.specs.Prelude.{◌≡◌, ◌≤◌, length};
 ghost use Rattle.std.specs.List.{prefix_len, suffix_len};
 ghost use Rattle.text.specs.Trims.{without_front, without_back, trimmed};
 
@@ -10,25 +10,19 @@ fn front_len<S: ByteTest>(s: &[u8]) -> usize
     ensures value { result ≡ prefix_len S.ByteTest.holds s.now }
     ensures bound { result ≤ length s.now }
 {
-    let mut n = 0;
-    while n < s.len() && S::test(s[n]) {
-        n += 1;
-    }
-    n
+    s.iter().take_while(|b| S::test(**b)).count()
 }
 
-// How many bytes are left without those of the set at the end.
-fn kept_len<S: ByteTest>(s: &[u8]) -> usize
-    ensures { result ≡ length s.now - suffix_len S.ByteTest.holds s.now }
+// How many bytes at the end are in the set.
+fn end_len<S: ByteTest>(s: &[u8]) -> usize
+    ensures value { result ≡ suffix_len S.ByteTest.holds s.now }
+    ensures bound { result ≤ length s.now }
 {
-    let mut n = s.len();
-    while n > 0 && S::test(s[n - 1]) {
-        n -= 1;
-    }
-    n
+    s.iter().rev().take_while(|b| S::test(**b)).count()
 }
 
 // The text from its first byte on that is not in the set.
+#[tactic(auto, unfolding(crate::specs::Trims::without_front))]
 pub fn trim_start<S: ByteTest>(s: &[u8]) -> &[u8]
     ensures { result.now ≡ without_front S.ByteTest.holds s.now }
 {
@@ -37,11 +31,12 @@ pub fn trim_start<S: ByteTest>(s: &[u8]) -> &[u8]
 }
 
 // The text up to its last byte that is not in the set.
+#[tactic(auto, unfolding(crate::specs::Trims::without_back))]
 pub fn trim_end<S: ByteTest>(s: &[u8]) -> &[u8]
     ensures { result.now ≡ without_back S.ByteTest.holds s.now }
 {
-    let n = kept_len::<S>(s);
-    &s[0..n]
+    let n = end_len::<S>(s);
+    &s[..s.len() - n]
 }
 
 // The text without blanks at both ends.

@@ -1,11 +1,12 @@
 // The sampling priority.
 ghost use Rattle.std.specs.Prelude.{◌≡◌};
 ghost use Rattle.std.specs.Option.{option_map};
-ghost use Rattle.number.specs.Numbers.{decimal_bytes, small, small_text};
+ghost use Rattle.number.specs.Numbers.{small, small_text};
+ghost use Rattle.text.specs.Inlines.{text_of};
 ghost use Rattle.trace.specs.Traces.{keeps, keeps_if, level};
 
 use number::read::read_i8;
-use number::write::{Decimal, decimal_i8};
+use number::write::{Decimal, decimal_text};
 
 // How much a trace is wanted.
 #[derive(Clone, Copy, PartialEq, Eq, Debug)]
@@ -27,17 +28,18 @@ impl SamplingPriority {
         self.value > 0
     }
 
+    // An Option, as numbers are read: a `TryFrom` would need an error that has nothing to say.
     pub fn from_text(s: &[u8]) -> Option<SamplingPriority>
         ensures { option_map level result ≡ small s.now }
     {
-        let value = read_i8(s)?;
-        Some(SamplingPriority { value })
+        read_i8(s).map(|value| SamplingPriority { value })
     }
 
+    // No `Display`, which can fail where its writer does; this text cannot.
     pub fn text(self) -> Decimal
-        ensures { decimal_bytes result ≡ small_text (level self) }
+        ensures { text_of result ≡ small_text (level self) }
     {
-        decimal_i8(self.value)
+        decimal_text(self.value)
     }
 }
 
@@ -45,8 +47,5 @@ impl SamplingPriority {
 pub fn is_kept(priority: Option<SamplingPriority>) -> bool
     ensures { result ≡ keeps_if (option_map level priority) }
 {
-    match priority {
-        Some(priority) => priority.is_keep(),
-        None => false,
-    }
+    priority.is_some_and(SamplingPriority::is_keep)
 }

@@ -10,10 +10,9 @@ use Rattle.number.specs.Numbers.{digit_value, numeral, hex_number, hex_text}
 use Rattle.text.proofs.Trimming.{trim_only}
 use Rattle.text.specs.Laws.{Trims, bare}
 use Rattle.text.specs.Takes.{taken_hex}
-use Rattle.text.specs.Trims.{trimmed}
 use Rattle.trace.specs.Traces.{is_zero, keeps}
 use Rattle.trace.specs.declared.ids.TraceId.{TraceId}
-use Rattle.traceparent.specs.Laws.{WrittenReadsBack}
+use Rattle.traceparent.specs.Laws.{HeaderReadsBack, WrittenReadsBack}
 use Rattle.traceparent.proofs.Shapes.{taken_hex_lem}
 use Rattle.traceparent.specs.Reads.{header_traceparent, read_traceparent, sampled}
 use Rattle.traceparent.specs.Writes.{flags_text, traceparent_text}
@@ -102,9 +101,6 @@ written_bare id span keep = record {
 }
 
 -- so what a header's value says is what the text says
-pub header-reads-back : (id : TraceId) (span : ℕ) (keep : Bool) → header_traceparent (traceparent_text id span keep) ≡ read_traceparent (traceparent_text id span keep)
+pub header_reads_back : HeaderReadsBack
 unfolding header_traceparent
-header-reads-back id span keep = ap read_traceparent (sym (trim_only (traceparent_text id span keep) (traceparent_text id span keep) (written_bare id span keep)))
-
-pub written_untrimmed : (id : TraceId) (span : ℕ) (keep : Bool) → trimmed (traceparent_text id span keep) ≡ traceparent_text id span keep
-written_untrimmed id span keep = sym (trim_only (traceparent_text id span keep) (traceparent_text id span keep) (written_bare id span keep))
+header_reads_back id span keep = ap read_traceparent (sym (trim_only (traceparent_text id span keep) (traceparent_text id span keep) (written_bare id span keep)))

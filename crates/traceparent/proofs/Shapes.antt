@@ -5,17 +5,17 @@ use Rattle.std.proofs.lemmas.Bool.{and_from, and_parts, cond-true, cond-false, l
 use Rattle.std.specs.Option.{option_map}
 use Rattle.byte_classes.specs.Sets.{hex}
 use Rattle.text.specs.Takes.{taken_char, taken_hex}
-use Rattle.text.specs.Texts.{all}
+use Rattle.std.specs.List.{list_all}
 use Rattle.traceparent.specs.Laws.{tail_text, Digits, Shaped, ShapeIs, ShapeOnly}
 use Rattle.traceparent.specs.Reads.{Fields, bind, components, taken_tail}
 
 -- digits in front of more text are taken whole
-pub taken_hex_lem : (n : ℕ) (xs rest : List ℕ) → length xs ≡ n → all hex xs ≡ true → taken_hex n (xs ++ rest) ≡ Some (xs, rest)
+pub taken_hex_lem : (n : ℕ) (xs rest : List ℕ) → length xs ≡ n → list_all hex xs ≡ true → taken_hex n (xs ++ rest) ≡ Some (xs, rest)
 unfolding taken_hex
 taken_hex_lem n xs rest e h =
     let front = take_at xs rest n e in
     let room : n ≤ length (xs ++ rest) = omega (arith, length-append xs rest) in
-    cond-true _ _ None (and_from (leb n (length (xs ++ rest))) (all hex (take n (xs ++ rest))) (le-leb _ _ room) (ap (all hex) front ∙ h))
+    cond-true _ _ None (and_from (leb n (length (xs ++ rest))) (list_all hex (take n (xs ++ rest))) (le-leb _ _ room) (ap (list_all hex) front ∙ h))
     ∙ (λ i. Some (front i, drop_at xs rest n e i))
 
 digits-taken : (n : ℕ) (xs rest : List ℕ) → Digits n xs → taken_hex n (xs ++ rest) ≡ Some (xs, rest)
@@ -47,7 +47,7 @@ passed false x y e = let z : ◌≡◌ {A = ℕ} 0 1 = cc in absurd (omega arith
 hex-parts : (n : ℕ) (s : List ℕ) (p : List ℕ × List ℕ) → taken_hex n s ≡ Some p → (s ≡ p.0 ++ p.1) × Digits n p.0
 unfolding taken_hex
 hex-parts n s p e =
-    let found = passed (leb n (length s) && all hex (take n s)) (take n s, drop n s) p e in
+    let found = passed (leb n (length s) && list_all hex (take n s)) (take n s, drop n s) p e in
     let parts = and_parts _ _ found.0 in
     let long : length (take n s) ≡ n = length-take-le n s (leb-true n (length s) parts.0) in
     let P : List ℕ × List ℕ → Type 0 = λ q. (s ≡ q.0 ++ q.1) × Digits n q.0 in

@@ -5,10 +5,8 @@ use Rattle.std.specs.Str.{bytes_eq}
 use Rattle.number.proofs.Ranges.{hex-fits}
 use Rattle.number.specs.Numbers.{hex_number}
 use Rattle.trace.specs.Traces.{is_zero, level}
-use Rattle.trace.specs.declared.ids.TraceId.{TraceId}
 use Rattle.traceparent.specs.Laws.{Tells, ReadTells}
-use Rattle.traceparent.specs.Reads.{Fields, bind, components, judged, judged_if, numbers, read_from, sampled}
-use Rattle.traceparent.specs.declared.read.Numbers.{Numbers}
+use Rattle.traceparent.specs.Reads.{Fields, bind, components, judged, judged_if, read_from, said, sampled}
 use Rattle.traceparent.specs.declared.read.Traceparent.{Traceparent}
 use Rattle.traceparent.specs.declared.read.TraceparentFault.{TraceparentFault}
 
@@ -28,45 +26,46 @@ bit flags = by (eqb (flags % 2) 1) where
   by true = inr refl
   by false = inl refl
 
-pub record Sized (n : Numbers) : Type 0 where
-  pub high : n.high < 2 ^ 64
-  pub low : n.low < 2 ^ 64
-  pub span : n.span_id < 2 ^ 64
+pub record Sized (t : Traceparent) : Type 0 where
+  pub high : t.trace_id.high < 2 ^ 64
+  pub low : t.trace_id.low < 2 ^ 64
+  pub span : t.span_id < 2 ^ 64
+  pub priority : (level t.sampling_priority ≡ pos 0) ⊎ (level t.sampling_priority ≡ pos 1)
 
-sized : (f : Fields) (n : Numbers) → numbers f ≡ Some n → Sized n
-sized f n e =
-    let a = bind-some (hex_number 16 f.high) _ n e in
-    let b = bind-some (hex_number 16 f.low) _ n a.2 in
-    let c = bind-some (hex_number 16 f.span) _ n b.2 in
-    let d = bind-some (hex_number 2 f.flags) _ n c.2 in
-    let last : ◌≡◌ {A = Option Numbers} (Some (record { high = a.0; low = b.0; span_id = c.0; flags = d.0 })) (Some n) = d.2 in
-    let is : ◌≡◌ {A = Numbers} (record { high = a.0; low = b.0; span_id = c.0; flags = d.0 }) n = cc in
-    subst Sized is (record { high = hex-fits 16 f.high a.0 a.1; low = hex-fits 16 f.low b.0 b.1; span = hex-fits 16 f.span c.0 c.1 })
+sized : (f : Fields) (t : Traceparent) → said f ≡ Some t → Sized t
+sized f t e =
+    let a = bind-some (hex_number 16 f.high) _ t e in
+    let b = bind-some (hex_number 16 f.low) _ t a.2 in
+    let c = bind-some (hex_number 16 f.span) _ t b.2 in
+    let d = bind-some (hex_number 2 f.flags) _ t c.2 in
+    let read : Traceparent = record { trace_id = record { high = a.0; low = b.0 }; span_id = c.0; sampling_priority = sampled d.0 } in
+    let last : ◌≡◌ {A = Option Traceparent} (Some read) (Some t) = d.2 in
+    let is : ◌≡◌ {A = Traceparent} read t = cc in
+    subst Sized is (record { high = hex-fits 16 f.high a.0 a.1; low = hex-fits 16 f.low b.0 b.1; span = hex-fits 16 f.span c.0 c.1; priority = bit d.0 })
 
-judged_tells : (f : Fields) (n : Numbers) (t : Traceparent) → Sized n → judged f n ≡ Ok t → Tells t
-judged_tells f n t s e =
-    let id : TraceId = record { high = n.high; low = n.low } in
-    let a = passed (is_zero id) _ _ t e in
-    let b = passed (eqb n.span_id 0) _ _ t a.1 in
-    let c = passed (bytes_eq f.version (codes "ff")) _ _ t b.1 in
-    let d = passed (bytes_eq f.version (codes "00") && is_some f.tail) _ _ t c.1 in
-    let last : ◌≡◌ {A = Result Traceparent TraceparentFault} (Ok (record { trace_id = id; span_id = n.span_id; sampling_priority = sampled n.flags })) (Ok t) = d.1 in
-    let is : ◌≡◌ {A = Traceparent} (record { trace_id = id; span_id = n.span_id; sampling_priority = sampled n.flags }) t = cc in
+judged_tells : (f : Fields) (t u : Traceparent) → Sized t → judged f t ≡ Ok u → Tells u
+judged_tells f t u s e =
+    let a = passed (is_zero t.trace_id) _ _ u e in
+    let b = passed (eqb t.span_id 0) _ _ u a.1 in
+    let c = passed (bytes_eq f.version (codes "ff")) _ _ u b.1 in
+    let d = passed (bytes_eq f.version (codes "00") && is_some f.tail) _ _ u c.1 in
+    let last : ◌≡◌ {A = Result Traceparent TraceparentFault} (Ok t) (Ok u) = d.1 in
+    let is : ◌≡◌ {A = Traceparent} t u = cc in
     subst Tells is (record {
       high = s.high;
       low = s.low;
       span = s.span;
       some_trace = a.0;
-      some_span = λ z. both_ways (eqb n.span_id 0) b.0 (eq-eqb n.span_id 0 z);
-      priority = bit n.flags;
+      some_span = λ z. both_ways (eqb t.span_id 0) b.0 (eq-eqb t.span_id 0 z);
+      priority = s.priority;
     })
 
 pub read_tells : ReadTells
 read_tells s t e = by (components s) e where
-  numbered : (f : Fields) (o : Option Numbers) → numbers f ≡ o → judged_if f o ≡ Ok t → Tells t
+  numbered : (f : Fields) (o : Option Traceparent) → said f ≡ o → judged_if f o ≡ Ok t → Tells t
   numbered f None is g = let z : ◌≡◌ {A = ℕ} 0 1 = cc in absurd (omega arith)
   numbered f (Some n) is g = judged_tells f n t (sized f n is) g
 
   by : (o : Option Fields) → read_from o ≡ Ok t → Tells t
   by None g = let z : ◌≡◌ {A = ℕ} 0 1 = cc in absurd (omega arith)
-  by (Some f) g = numbered f (numbers f) refl g
+  by (Some f) g = numbered f (said f) refl g

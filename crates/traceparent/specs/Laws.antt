@@ -1,10 +1,10 @@
 -- What a traceparent is, without saying how it is taken apart; and that what is written is read as the same. Assumes nothing.
 use Rattle.std.specs.Prelude.{◌≡◌, ℕ, ◌^◌, ◌<◌, Bool, true, false, ◌⊎◌, List, [], ◌++◌, length, pos, Some, None, Ok, codes, Option, ◌≢◌}
 use Rattle.byte_classes.specs.Sets.{hex}
-use Rattle.text.specs.Texts.{all}
+use Rattle.std.specs.List.{list_all}
 use Rattle.trace.specs.Traces.{is_zero, keeps, level}
 use Rattle.trace.specs.declared.ids.TraceId.{TraceId}
-use Rattle.traceparent.specs.Reads.{Fields, components, read_traceparent}
+use Rattle.traceparent.specs.Reads.{Fields, components, header_traceparent, read_traceparent}
 use Rattle.traceparent.specs.Writes.{traceparent_text}
 use Rattle.traceparent.specs.declared.read.Traceparent.{Traceparent}
 
@@ -20,6 +20,10 @@ abbrev pub WrittenReadsBack : Type 0
 WrittenReadsBack =
     (id : TraceId) (span : ℕ) (keep : Bool) → id.high < 2 ^ 64 → id.low < 2 ^ 64 → span < 2 ^ 64 →
     is_zero id ≡ false → (span ≢ 0) → ReadsAs (traceparent_text id span keep) id span keep
+
+-- as a header's value it has no blanks to take off, and is read the same
+abbrev pub HeaderReadsBack : Type 0
+HeaderReadsBack = (id : TraceId) (span : ℕ) (keep : Bool) → header_traceparent (traceparent_text id span keep) ≡ read_traceparent (traceparent_text id span keep)
 
 abbrev pub WrittenLength : Type 0
 WrittenLength = (id : TraceId) (span : ℕ) (keep : Bool) → length (traceparent_text id span keep) ≡ 55
@@ -44,7 +48,7 @@ tail_text (Some t) = codes "-" ++ t
 -- so many lower-case hexadecimal digits
 pub record Digits (n : ℕ) (t : List ℕ) : Type 0 where
   pub long : length t ≡ n
-  pub hexes : all hex t ≡ true
+  pub hexes : list_all hex t ≡ true
 
 -- the shape of a traceparent, and its fields
 pub record Shaped (s : List ℕ) (f : Fields) : Type 0 where

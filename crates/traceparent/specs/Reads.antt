@@ -6,10 +6,8 @@ use Rattle.number.specs.Numbers.{hex_number}
 use Rattle.text.specs.Takes.{taken_char, taken_hex}
 use Rattle.text.specs.Trims.{trimmed}
 use Rattle.trace.specs.Traces.{is_zero}
-use Rattle.trace.specs.declared.ids.TraceId.{TraceId}
 use Rattle.trace.specs.declared.priority.SamplingPriority.{SamplingPriority}
 use Rattle.traceparent.specs.declared.read.Components.{Components}
-use Rattle.traceparent.specs.declared.read.Numbers.{Numbers}
 use Rattle.traceparent.specs.declared.read.Traceparent.{Traceparent}
 use Rattle.traceparent.specs.declared.read.TraceparentFault.{TraceparentFault}
 use Rattle.traceparent.specs.declared.read.TraceparentFault.TheVariants.{Shape, ZeroTraceId, ZeroSpanId, VersionFf, TailAfterVersion00}
@@ -51,32 +49,32 @@ components s =
     bind (taken_hex 2 s₃) (λ flags. bind (taken_tail flags.1) (λ tail.
     Some (record { version = version.0; high = high.0; low = low.0; span = span.0; flags = flags.0; tail = tail }))))))))))
 
-abbrev pub numbers : Fields → Option Numbers
-numbers f =
-    bind (hex_number 16 f.high) (λ high. bind (hex_number 16 f.low) (λ low. bind (hex_number 16 f.span) (λ span. bind (hex_number 2 f.flags) (λ flags.
-    Some (record { high = high; low = low; span_id = span; flags = flags })))))
-
 -- bit 0 of the flags: keep or reject
 abbrev pub sampled : ℕ → SamplingPriority
 sampled flags = cond (flags % 2 == 1) (record { value = pos 1 }) (record { value = pos 0 })
 
+-- what the parts say, if they write numbers
+abbrev pub said : Fields → Option Traceparent
+said f =
+    bind (hex_number 16 f.high) (λ high. bind (hex_number 16 f.low) (λ low. bind (hex_number 16 f.span) (λ span. bind (hex_number 2 f.flags) (λ flags.
+    Some (record { trace_id = record { high = high; low = low }; span_id = span; sampling_priority = sampled flags })))))
+
 -- the refusals in their order
-abbrev pub judged : Fields → Numbers → Result Traceparent TraceparentFault
-judged f n =
-    let id : TraceId = record { high = n.high; low = n.low } in
-    cond (is_zero id) (Err ZeroTraceId)
-    (cond (n.span_id == 0) (Err ZeroSpanId)
+abbrev pub judged : Fields → Traceparent → Result Traceparent TraceparentFault
+judged f t =
+    cond (is_zero t.trace_id) (Err ZeroTraceId)
+    (cond (t.span_id == 0) (Err ZeroSpanId)
     (cond (bytes_eq f.version (codes "ff")) (Err VersionFf)
     (cond (bytes_eq f.version (codes "00") && is_some f.tail) (Err TailAfterVersion00)
-    (Ok (record { trace_id = id; span_id = n.span_id; sampling_priority = sampled n.flags })))))
+    (Ok t))))
 
-abbrev pub judged_if : Fields → Option Numbers → Result Traceparent TraceparentFault
+abbrev pub judged_if : Fields → Option Traceparent → Result Traceparent TraceparentFault
 judged_if f None = Err Shape
-judged_if f (Some n) = judged f n
+judged_if f (Some t) = judged f t
 
 abbrev pub read_from : Option Fields → Result Traceparent TraceparentFault
 read_from None = Err Shape
-read_from (Some f) = judged_if f (numbers f)
+read_from (Some f) = judged_if f (said f)
 
 -- what the text says, or why it is refused
 abbrev pub read_traceparent : List ℕ → Result Traceparent TraceparentFault

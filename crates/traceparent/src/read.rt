@@ -1,10 +1,11 @@
 // traceparent, read.
 ghost use Rattle.std.specs.Prelude.{◌≡◌};
+ghost use Rattle.std.proofs.Common.{rules};
 ghost use Rattle.std.specs.Option.{option_map};
-ghost use Rattle.traceparent.specs.Reads.{Fields, components, header_traceparent, judged, number, numbers, parts, read_traceparent, sampled, taken_tail};
+ghost use Rattle.traceparent.specs.Reads.{Fields, components, header_traceparent, judged, number, parts, read_traceparent, said, sampled, taken_tail};
 
-use number::read::{read_hex_u8, read_hex_u64};
-use text::check::same;
+use number::read::read_hex;
+use refusal::Refusal;
 use text::take::{take_char, take_n_hex_chars};
 use text::trim::trim;
 use trace::ids::TraceId;
@@ -28,12 +29,14 @@ pub enum TraceparentFault {
     TailAfterVersion00 = 6,
 }
 
-impl TraceparentFault {
-    pub fn number(self) -> u8
-        ensures { result ≡ number self }
-    {
+impl Refusal for TraceparentFault {
+    ghost code = { number };
+
+    fn number(self) -> u8 {
         self as u8
     }
+
+    ghost in_range = { Prim.search rules };
 }
 
 // The parts of a traceparent, as they stand in the text. A tail is what follows a dash after the flags.
@@ -47,37 +50,25 @@ struct Components<'a> {
     tail: Option<&'a [u8]>,
 }
 
-// The numbers that the parts write.
-#[derive(Clone, Copy)]
-struct Numbers {
-    high: u64,
-    low: u64,
-    span_id: u64,
-    flags: u8,
-}
-
-// What stands after the flags: nothing, or a dash and any tail.
+// What stands after the flags: nothing, or a dash and any tail. None within says that there is none, without that the text is malformed.
 fn take_tail(s: &[u8]) -> Option<Option<&[u8]>>
     ensures { option_map (option_map (λ x. x.now)) result ≡ taken_tail s.now }
 {
     if s.is_empty() {
-        return Some(None);
+        Some(None)
+    } else {
+        take_char(s, b'-').map(Some)
     }
-    let tail = take_char(s, b'-')?;
-    Some(Some(tail))
 }
 
 fn parse_traceparent_components(text: &[u8]) -> Option<Components<'_>>
     ensures { option_map parts result ≡ components text.now }
 {
     let (version, s) = take_n_hex_chars(text, 2)?;
-    let s = take_char(s, b'-')?;
-    let (high, s) = take_n_hex_chars(s, 16)?;
+    let (high, s) = take_n_hex_chars(take_char(s, b'-')?, 16)?;
     let (low, s) = take_n_hex_chars(s, 16)?;
-    let s = take_char(s, b'-')?;
-    let (span_id, s) = take_n_hex_chars(s, 16)?;
-    let s = take_char(s, b'-')?;
-    let (flags, s) = take_n_hex_chars(s, 2)?;
+    let (span_id, s) = take_n_hex_chars(take_char(s, b'-')?, 16)?;
+    let (flags, s) = take_n_hex_chars(take_char(s, b'-')?, 2)?;
     let tail = take_tail(s)?;
     Some(Components {
         version,
@@ -89,23 +80,8 @@ fn parse_traceparent_components(text: &[u8]) -> Option<Components<'_>>
     })
 }
 
-fn parse_numbers(c: Components) -> Option<Numbers>
-    ensures { result ≡ numbers (parts c.entry) }
-{
-    let high = read_hex_u64(c.high)?;
-    let low = read_hex_u64(c.low)?;
-    let span_id = read_hex_u64(c.span_id)?;
-    let flags = read_hex_u8(c.flags)?;
-    Some(Numbers {
-        high,
-        low,
-        span_id,
-        flags,
-    })
-}
-
 // Bit 0 of the flags says whether the trace is kept; the other bits are ignored.
-fn sampling(flags: u8) -> SamplingPriority
+fn sampling(flags: u64) -> SamplingPriority
     ensures { result ≡ sampled flags }
 {
     if flags % 2 == 1 {
@@ -115,43 +91,46 @@ fn sampling(flags: u8) -> SamplingPriority
     }
 }
 
-fn judge(c: Components, n: Numbers) -> Result<Traceparent, TraceparentFault>
-    ensures { result ≡ judged (parts c.entry) n }
-{
-    let trace_id = TraceId {
-        high: n.high,
-        low: n.low,
-    };
-    if trace_id.is_zero() {
-        return Err(TraceparentFault::ZeroTraceId);
+impl Components<'_> {
+    // What the numbers say that the parts write.
+    fn read(self) -> Option<Traceparent>
+        ensures { result ≡ said (parts self.entry) }
+    {
+        Some(Traceparent {
+            trace_id: TraceId {
+                high: read_hex(self.high, 16)?,
+                low: read_hex(self.low, 16)?,
+            },
+            span_id: read_hex(self.span_id, 16)?,
+            sampling_priority: sampling(read_hex(self.flags, 2)?),
+        })
     }
-    if n.span_id == 0 {
-        return Err(TraceparentFault::ZeroSpanId);
+
+    // What they say, or why it is refused.
+    fn judge(self, said: Traceparent) -> Result<Traceparent, TraceparentFault>
+        ensures { result ≡ judged (parts self.entry) said }
+    {
+        if said.trace_id.is_zero() {
+            Err(TraceparentFault::ZeroTraceId)
+        } else if said.span_id == 0 {
+            Err(TraceparentFault::ZeroSpanId)
+        } else if self.version == b"ff".as_slice() {
+            Err(TraceparentFault::VersionFf)
+        } else if self.version == b"00".as_slice() && self.tail.is_some() {
+            Err(TraceparentFault::TailAfterVersion00)
+        } else {
+            Ok(said)
+        }
     }
-    if same(c.version, b"ff") {
-        return Err(TraceparentFault::VersionFf);
-    }
-    if same(c.version, b"00") && c.tail.is_some() {
-        return Err(TraceparentFault::TailAfterVersion00);
-    }
-    Ok(Traceparent {
-        trace_id,
-        span_id: n.span_id,
-        sampling_priority: sampling(n.flags),
-    })
 }
 
 // The traceparent that a text without blanks at its ends writes.
 pub fn extract_traceparent(text: &[u8]) -> Result<Traceparent, TraceparentFault>
     ensures { result ≡ read_traceparent text.now }
 {
-    let Some(components) = parse_traceparent_components(text) else {
-        return Err(TraceparentFault::Shape);
-    };
-    let Some(numbers) = parse_numbers(components) else {
-        return Err(TraceparentFault::Shape);
-    };
-    judge(components, numbers)
+    let components = parse_traceparent_components(text).ok_or(TraceparentFault::Shape)?;
+    let said = components.read().ok_or(TraceparentFault::Shape)?;
+    components.judge(said)
 }
 
 // What a traceparent header says: blanks surround a header's value and do not belong to it.

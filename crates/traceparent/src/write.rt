@@ -1,35 +1,33 @@
 // traceparent, written.
-ghost use Rattle.std.specs.Prelude.{◌≡◌};
-ghost use Rattle.traceparent.specs.Writes.{flags_text, traceparent_text};
+ghost use Rattle.std.specs.Prelude.{◌≡◌, ◌+◌, ◌≤◌};
+ghost use Rattle.number.specs.Numbers.{hex_text};
+ghost use Rattle.text.specs.Appends.{placed};
+ghost use Rattle.traceparent.specs.Writes.{traceparent_text};
 
-use number::write::hex_u64;
-use text::append::append;
+use number::write::fill_hex;
 use trace::ids::TraceId;
 
 // A traceparent of version 00 has this length.
 pub const TRACEPARENT_LEN: usize = 55;
 
-fn flags_text(keep: bool) -> [u8; 2]
-    ensures { result ≡ flags_text keep }
+// Writes the last digits of the number over what stands at that place.
+fn put_hex(out: &mut [u8; TRACEPARENT_LEN], at: usize, width: usize, n: u64)
+    requires { at + width ≤ 55 }
+    ensures { out.new ≡ placed out.old at (hex_text width n) }
 {
-    if keep { *b"01" } else { *b"00" }
+    fill_hex(&mut out[at..at + width], n);
 }
 
 // The traceparent of these ids and this keep decision.
 pub fn traceparent_text(trace_id: TraceId, span_id: u64, keep: bool) -> [u8; TRACEPARENT_LEN]
     ensures { result ≡ traceparent_text trace_id span_id keep }
 {
-    let high = hex_u64(trace_id.high);
-    let low = hex_u64(trace_id.low);
-    let span = hex_u64(span_id);
-    let flags = flags_text(keep);
-    let mut out = [0u8; TRACEPARENT_LEN];
-    let at = append(&mut out, 0, b"00-");
-    let at = append(&mut out, at, &high);
-    let at = append(&mut out, at, &low);
-    let at = append(&mut out, at, b"-");
-    let at = append(&mut out, at, &span);
-    let at = append(&mut out, at, b"-");
-    append(&mut out, at, &flags);
+    // The dashes are what no number is written over.
+    let mut out = [b'-'; TRACEPARENT_LEN];
+    put_hex(&mut out, 0, 2, 0);
+    put_hex(&mut out, 3, 16, trace_id.high);
+    put_hex(&mut out, 19, 16, trace_id.low);
+    put_hex(&mut out, 36, 16, span_id);
+    put_hex(&mut out, 53, 2, u64::from(keep));
     out
 }

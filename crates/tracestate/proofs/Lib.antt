@@ -1,3 +1,4 @@
+mod Folds
 mod Hearing
-mod Reading
+pub mod Reading
 mod Tagging

@@ -1,21 +1,11 @@
 -- Pieces read one after the other, and what they say together. Assumes nothing.
-use Rattle.std.proofs.Common.{◌≡◌, ℕ, suc, ◌+◌, ◌-◌, ◌<◌, ◌≤◌, Bool, true, false, cond, eqb, List, [], ◌∷◌, length, take, Some, None, codes, Option, sym, refl, ap, ◌∙◌, arith}
-use Rattle.std.proofs.lemmas.List.{take_all}
+use Rattle.std.proofs.Common.{◌≡◌, ℕ, Bool, true, false, cond, eqb, List, [], ◌∷◌, length, take, Some, None, codes, Option, refl, ap, ◌∙◌}
 use Rattle.std.specs.Option.{option_map}
-use Rattle.text.specs.Cursors.{first_of, others_of}
 use Rattle.text.specs.Splits.{pieces}
 use Rattle.text.specs.Trims.{trimmed}
 use Rattle.tracestate.specs.Lists.{with_member, members_of, tracestate, counting, Found, found, seen, read_piece, read_tracestate}
 use Rattle.tracestate.specs.Members.{Pair, member_of, newer, value_at}
-
-abbrev pub bind : Option Found → (Found → Option Found) → Option Found
-bind None f = None
-bind (Some x) f = f x
-
--- what the pieces say, after what was found before them
-abbrev pub read_on : Found → List (List ℕ) → Option Found
-read_on f [] = Some f
-read_on f (p ∷ ps) = bind (read_piece f p) (λ g. read_on g ps)
+use Rattle.tracestate.proofs.Folds.{bind, fold_while}
 
 abbrev pub nothing : Found
 nothing = record { dd = None; ot = None }
@@ -43,16 +33,16 @@ after_none : (ms : List Pair) → after nothing ms ≡ found ms
 after_none ms = λ i. both (newer_none (counting (codes "dd") ms) i) (newer_none (counting (codes "ot") ms) i)
 
 -- a piece that is not empty
-one_more : (f : Found) (m : Option Pair) (ps : List (List ℕ)) (ms : Option (List Pair)) → ((g : Found) → read_on g ps ≡ option_map (after g) ms) → bind (option_map (seen f) m) (λ g. read_on g ps) ≡ option_map (after f) (with_member m ms)
+one_more : (f : Found) (m : Option Pair) (ps : List (List ℕ)) (ms : Option (List Pair)) → ((g : Found) → fold_while read_piece g ps ≡ option_map (after g) ms) → bind (option_map (seen f) m) (λ g. fold_while read_piece g ps) ≡ option_map (after f) (with_member m ms)
 one_more f None ps ms e = refl
 one_more f (Some m) ps None e = e (seen f m)
 one_more f (Some m) ps (Some ms) e = e (seen f m) ∙ ap Some (after-seen f m ms)
 
-more : (t : Bool) (f : Found) (m : Option Pair) (ps : List (List ℕ)) (ms : Option (List Pair)) → ((g : Found) → read_on g ps ≡ option_map (after g) ms) → bind (cond t (Some f) (option_map (seen f) m)) (λ g. read_on g ps) ≡ option_map (after f) (cond t ms (with_member m ms))
+more : (t : Bool) (f : Found) (m : Option Pair) (ps : List (List ℕ)) (ms : Option (List Pair)) → ((g : Found) → fold_while read_piece g ps ≡ option_map (after g) ms) → bind (cond t (Some f) (option_map (seen f) m)) (λ g. fold_while read_piece g ps) ≡ option_map (after f) (cond t ms (with_member m ms))
 more true f m ps ms e = e f
 more false f m ps ms e = one_more f m ps ms e
 
-reads : (ps : List (List ℕ)) (f : Found) → read_on f ps ≡ option_map (after f) (members_of ps)
+reads : (ps : List (List ℕ)) (f : Found) → fold_while read_piece f ps ≡ option_map (after f) (members_of ps)
 unfolding counting
 reads [] f = refl
 reads (p ∷ ps) f = more (eqb (length (trimmed p)) 0) f (member_of (trimmed p)) ps (members_of ps) (reads ps)
@@ -61,21 +51,6 @@ mapped_same : {X : Type 0} (f g : X → Found) (o : Option X) → ((x : X) → f
 mapped_same f g None e = refl
 mapped_same f g (Some x) e = ap Some (e x)
 
-pub reads_all : (s : List ℕ) → read_on nothing (take 32 (pieces 0x2C s)) ≡ read_tracestate s
+pub reads_all : (s : List ℕ) → fold_while read_piece nothing (take 32 (pieces 0x2C s)) ≡ read_tracestate s
 unfolding tracestate
 reads_all s = reads (take 32 (pieces 0x2C s)) nothing ∙ mapped_same (after nothing) found (tracestate s) after_none
-
--- the loop: n pieces were read, and these are left
-pub next_piece : (f : Found) (ps : List (List ℕ)) (n : ℕ) (p : List ℕ) (rest : List (List ℕ)) → n < 32 → Some p ≡ first_of ps → rest ≡ others_of ps → read_on f (take (32 - n) ps) ≡ bind (read_piece f p) (λ g. read_on g (take (32 - (n + 1)) rest))
-next_piece f [] n p rest h e r = let z : ◌≡◌ {A = ℕ} 0 1 = cc in absurd (omega arith)
-next_piece f (q ∷ qs) n p rest h e r =
-    let k : 32 - n ≡ suc (32 - (n + 1)) = omega arith in
-    let same : q ≡ p = cc in
-    ap (λ m. read_on f (take m (q ∷ qs))) k ∙ (λ i. bind (read_piece f (same i)) (λ g. read_on g (take (32 - (n + 1)) (sym r i))))
-
-pub no_piece : (f : Found) (ps : List (List ℕ)) (n : ℕ) → None ≡ first_of ps → read_on f (take (32 - n) ps) ≡ Some f
-no_piece f [] n e = ap (read_on f) (take_all (32 - n) [] (omega arith))
-no_piece f (q ∷ qs) n e = let z : ◌≡◌ {A = ℕ} 0 1 = cc in absurd (omega arith)
-
-pub enough : (f : Found) (ps : List (List ℕ)) (n : ℕ) → 32 ≤ n → read_on f (take (32 - n) ps) ≡ Some f
-enough f ps n h = let none : 32 - n ≡ 0 = omega arith in rw none refl

@@ -90,16 +90,9 @@ heard ps = record { priority = last_of 0 ps; origin = last_of 1 ps; parent = las
 abbrev pub says : Dd → Heard
 says d = record { priority = option_map (λ x. x.now) d.priority; origin = option_map (λ x. x.now) d.origin; parent = option_map (λ x. x.now) d.last_parent }
 
--- what is heard once an item more, or a piece more, is read
+-- what is heard once an item more is read
 abbrev pub hear : Heard → ℕ × Pair → Heard
 hear h x = record { priority = newer (of_kind 0 x) h.priority; origin = newer (of_kind 1 x) h.origin; parent = newer (of_kind 2 x) h.parent }
-
-abbrev pub hear_if : Heard → Option (ℕ × Pair) → Heard
-hear_if h None = h
-hear_if h (Some x) = hear h x
-
-abbrev pub hear_piece : Heard → List ℕ → Heard
-hear_piece h p = hear_if h (option_map kinded (item_of p))
 
 -- whether an item has the key
 abbrev pub key_in : List ℕ → Option Pair → Bool
@@ -111,14 +104,6 @@ abbrev pub standing_tag : Option Pair → List Pair → Option Pair
 standing_tag None later = None
 standing_tag (Some p) later = cond (has_key p.key later) None (tag_of p)
 
--- what a cursor over tags has still to give
+-- the tags that are still to come
 abbrev pub tags_left : DdTags → List Pair
 tags_left t = tags (items_of (left t.pieces))
-
-abbrev pub first : List Pair → Option Pair
-first [] = None
-first (p ∷ ps) = Some p
-
-abbrev pub others : List Pair → List Pair
-others [] = []
-others (p ∷ ps) = ps

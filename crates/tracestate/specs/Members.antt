@@ -3,12 +3,12 @@ use Rattle.std.specs.Prelude.{ℕ, ◌-◌, Bool, cond, not, ◌&&◌, List, [],
 use Rattle.std.specs.Str.{bytes_eq}
 use Rattle.byte_classes.specs.Sets.{letter_or_digit, space, tracestate_key, tracestate_value}
 use Rattle.text.specs.Splits.{split_once}
-use Rattle.text.specs.Texts.{all}
+use Rattle.std.specs.List.{list_all}
 use Rattle.tracestate.specs.declared.member.Member.{Member}
 
 -- 1 to so many key bytes, the first a letter or digit
 unfoldable pub is_part : ℕ → List ℕ → Bool
-is_part most s = (nat_lt 0 (length s) && nat_le (length s) most) && (letter_or_digit (slice_index s 0) && all tracestate_key s)
+is_part most s = (nat_lt 0 (length s) && nat_le (length s) most) && (letter_or_digit (slice_index s 0) && list_all tracestate_key s)
 
 -- by whether there is an `@`: two parts of up to 241 and 14 bytes, or one of up to 256
 abbrev pub key_by : List ℕ → Option (List ℕ × List ℕ) → Bool
@@ -20,7 +20,7 @@ is_key s = key_by s (split_once 0x40 s)
 
 -- 1 to 256 value bytes, the last not a space
 unfoldable pub is_value : List ℕ → Bool
-is_value s = (nat_lt 0 (length s) && nat_le (length s) 256) && (not (space (slice_index s (length s - 1))) && all tracestate_value s)
+is_value s = (nat_lt 0 (length s) && nat_le (length s) 256) && (not (space (slice_index s (length s - 1))) && list_all tracestate_value s)
 
 pub record Pair : Type 0 where
   pub key : List ℕ

@@ -1,16 +1,19 @@
 // The items of a dd value.
 ghost use Rattle.std.specs.Prelude.{◌≡◌};
+ghost use Rattle.std.specs.Iterator.{YieldsFirstBy, item_count};
 ghost use Rattle.std.specs.Option.{option_map};
 ghost use Rattle.text.specs.Cursors.{left};
-ghost use Rattle.tracestate.specs.Items.{first, has_key, hear, hear_piece, heard, item_of, items, items_of, key_in, kinded, others, says, standing_tag, tags, tags_left, told};
+ghost use Rattle.tracestate.specs.Items.{has_key, hear, heard, item_of, items, items_of, key_in, kinded, says, standing_tag, tags, tags_left, told};
 ghost use Rattle.tracestate.specs.Members.{said};
 
 use crate::member::Member;
-use text::check::same;
 use text::pieces::Pieces;
 use text::split::split_once;
 use text::take::strip_prefix;
 use text::trim::trim;
+
+// What the key of a tag begins with.
+const TAG_PREFIX: &[u8] = b"t.";
 
 // An item by its key, with its parts of the text.
 #[derive(Clone, Copy)]
@@ -23,32 +26,29 @@ pub enum DdItem<'a> {
 }
 
 // What a dd value says besides its tags.
-#[derive(Clone, Copy)]
+#[derive(Clone, Copy, Default)]
 pub struct Dd<'a> {
     pub priority: Option<&'a [u8]>,
     pub origin: Option<&'a [u8]>,
     pub last_parent: Option<&'a [u8]>,
 }
 
-// A cursor over the tags of a dd value.
+// The tags of a dd value that are still to come.
 #[derive(Clone, Copy)]
 pub struct DdTags<'a> {
     pieces: Pieces<'a>,
 }
 
+#[tactic(auto, using(crate::proofs::Tagging::begins))]
 fn item_of<'a>(key: &'a [u8], value: &'a [u8]) -> DdItem<'a>
     ensures { told result ≡ kinded (record { key = key.entry.now; value = value.now }) }
 {
-    if same(key, b"s") {
-        DdItem::Priority { key, value }
-    } else if same(key, b"o") {
-        DdItem::Origin { key, value }
-    } else if same(key, b"p") {
-        DdItem::LastParent { key, value }
-    } else if strip_prefix(key, b"t.").is_some() {
-        DdItem::Tag { key, value }
-    } else {
-        DdItem::Other { key, value }
+    match key {
+        b"s" => DdItem::Priority { key, value },
+        b"o" => DdItem::Origin { key, value },
+        b"p" => DdItem::LastParent { key, value },
+        _ if key.starts_with(TAG_PREFIX) => DdItem::Tag { key, value },
+        _ => DdItem::Other { key, value },
     }
 }
 
@@ -77,17 +77,7 @@ fn hear_item<'a>(dd: Dd<'a>, item: DdItem<'a>) -> Dd<'a>
             last_parent: Some(value),
             ..dd
         },
-        DdItem::Tag { .. } => dd,
-        DdItem::Other { .. } => dd,
-    }
-}
-
-fn hear_piece<'a>(dd: Dd<'a>, piece: &'a [u8]) -> Dd<'a>
-    ensures { says result ≡ hear_piece (says dd.entry) piece.now }
-{
-    match dd_item(piece) {
-        Some(item) => hear_item(dd, item),
-        None => dd,
+        DdItem::Tag { .. } | DdItem::Other { .. } => dd,
     }
 }
 
@@ -95,38 +85,22 @@ fn hear_piece<'a>(dd: Dd<'a>, piece: &'a [u8]) -> Dd<'a>
 pub fn read_dd(value: &[u8]) -> Dd<'_>
     ensures { says result ≡ heard (items value.now) }
 {
-    let mut pieces = Pieces::new(trim(value), b';');
-    let mut dd = Dd {
-        priority: None,
-        origin: None,
-        last_parent: None,
-    };
-    while let Some(piece) = pieces.next() {
-        dd = hear_piece(dd, piece);
-    }
-    dd
+    Pieces::new(trim(value), b';')
+        .filter_map(dd_item)
+        .fold(Dd::default(), hear_item)
 }
 
 fn has_key(piece: &[u8], key: &[u8]) -> bool
     ensures { result ≡ key_in key.now (item_of piece.now) }
 {
-    match split_once(piece, b':') {
-        Some((own, _)) => same(own, key),
-        None => false,
-    }
+    split_once(piece, b':').is_some_and(|(own, _)| own == key)
 }
 
 // Whether an item of that key is still to come.
-fn is_replaced(key: &[u8], later: Pieces) -> bool
+fn is_replaced(key: &[u8], mut later: Pieces) -> bool
     ensures { result ≡ has_key key.now (items_of (left later.entry)) }
 {
-    let mut pieces = later;
-    while let Some(piece) = pieces.next() {
-        if has_key(piece, key) {
-            return true;
-        }
-    }
-    false
+    later.any(|piece| has_key(piece, key))
 }
 
 // The tag that a piece is, with what follows `t.` as its key, unless a later item replaces it.
@@ -134,14 +108,12 @@ fn standing_tag<'a>(piece: &'a [u8], later: Pieces<'a>) -> Option<Member<'a>>
     ensures { option_map said result ≡ standing_tag (item_of piece.now) (items_of (left later.entry)) }
 {
     let (key, value) = split_once(piece, b':')?;
-    if is_replaced(key, later) {
-        return None;
-    }
-    let rest = strip_prefix(key, b"t.")?;
-    Some(Member { key: rest, value })
+    let rest = strip_prefix(key, TAG_PREFIX)?;
+    (!is_replaced(key, later)).then_some(Member { key: rest, value })
 }
 
 impl<'a> DdTags<'a> {
+    #[tactic(auto, unfolding(crate::specs::Items::items))]
     pub fn new(value: &'a [u8]) -> DdTags<'a>
         ensures { tags_left result ≡ tags (items value.now) }
     {
@@ -149,15 +121,20 @@ impl<'a> DdTags<'a> {
             pieces: Pieces::new(trim(value), b';'),
         }
     }
+}
+
+impl<'a> Iterator for DdTags<'a> {
+    type Item = Member<'a>;
+
+    ghost next_gives = { YieldsFirstBy said tags_left };
+
+    ghost remaining = { item_count tags_left };
 
     // The next tag; none once all were given.
-    pub fn next(&mut self) -> Option<Member<'a>>
-        ensures tag { option_map said result ≡ first (tags_left self.old) }
-        ensures after { tags_left self.new ≡ others (tags_left self.old) }
-    {
+    fn next(&mut self) -> Option<Member<'a>> {
+        // No `for` or chain takes its place: a turn also reads what the cursor has left after it.
         while let Some(piece) = self.pieces.next() {
-            let later = self.pieces;
-            if let Some(tag) = standing_tag(piece, later) {
+            if let Some(tag) = standing_tag(piece, self.pieces) {
                 return Some(tag);
             }
         }

@@ -1,8 +1,6 @@
 // The definitions at the examples of the rules. They are proved because a contract names them.
 ghost use Rattle.tracestate.specs.Cases.{Cases};
 
-pub fn cases_hold() -> u8
+pub fn cases_hold()
     ensures { Cases }
-{
-    0
-}
+{}

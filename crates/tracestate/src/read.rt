@@ -5,7 +5,6 @@ ghost use Rattle.tracestate.specs.Lists.{read_piece, read_tracestate, seen, show
 ghost use Rattle.tracestate.specs.Members.{said};
 
 use crate::member::{Member, split_member};
-use text::check::same;
 use text::pieces::Pieces;
 use text::trim::trim;
 
@@ -13,7 +12,7 @@ use text::trim::trim;
 pub const TRACESTATE_MAX_MEMBERS: usize = 32;
 
 // What a tracestate says to us: the values of our own member and of OpenTelemetry's, as parts of the list.
-#[derive(Clone, Copy)]
+#[derive(Clone, Copy, Default)]
 pub struct Tracestate<'a> {
     pub dd: Option<&'a [u8]>,
     pub ot: Option<&'a [u8]>,
@@ -23,17 +22,17 @@ pub struct Tracestate<'a> {
 fn with_member<'a>(found: Tracestate<'a>, member: Member<'a>) -> Tracestate<'a>
     ensures { shown result ≡ seen (shown found.entry) (said member.entry) }
 {
-    let dd = if same(member.key, b"dd") {
-        Some(member.value)
-    } else {
-        found.dd
-    };
-    let ot = if same(member.key, b"ot") {
-        Some(member.value)
-    } else {
-        found.ot
-    };
-    Tracestate { dd, ot }
+    match member.key {
+        b"dd" => Tracestate {
+            dd: Some(member.value),
+            ..found
+        },
+        b"ot" => Tracestate {
+            ot: Some(member.value),
+            ..found
+        },
+        _ => found,
+    }
 }
 
 // What is found once a piece more is read; none if it is unlawful.
@@ -52,13 +51,7 @@ fn read_piece<'a>(found: Tracestate<'a>, piece: &'a [u8]) -> Option<Tracestate<'
 pub fn read_tracestate(s: &[u8]) -> Option<Tracestate<'_>>
     ensures { option_map shown result ≡ read_tracestate s.now }
 {
-    let mut pieces = Pieces::new(s, b',');
-    let mut found = Tracestate { dd: None, ot: None };
-    for _n in 0..TRACESTATE_MAX_MEMBERS {
-        let Some(piece) = pieces.next() else {
-            break;
-        };
-        found = read_piece(found, piece)?;
-    }
-    Some(found)
+    Pieces::new(s, b',')
+        .take(TRACESTATE_MAX_MEMBERS)
+        .try_fold(Tracestate::default(), read_piece)
 }

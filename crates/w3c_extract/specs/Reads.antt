@@ -1,5 +1,6 @@
 -- What the W3C headers say to an extract. Assumes nothing.
 use Rattle.std.specs.Prelude.{ℕ, Bool, cond, not, ◌&&◌, ◌||◌, List, [], ◌∷◌, ◌++◌, map, ℤ, Some, None, Ok, Err, codes, Option, Result}
+use Rattle.std.specs.Option.{option_and_then, option_map_or, option_to_list, unwrap_or}
 use Rattle.byte_classes.specs.Sets.{tilde}
 use Rattle.text.specs.Texts.{replaced}
 use Rattle.text.specs.Trims.{trimmed}
@@ -8,10 +9,10 @@ use Rattle.trace.specs.Traces.{keeps, level}
 use Rattle.traceparent.specs.Reads.{header_traceparent}
 use Rattle.traceparent.specs.declared.read.Traceparent.{Traceparent}
 use Rattle.traceparent.specs.declared.read.TraceparentFault.{TraceparentFault}
-use Rattle.traceparent.specs.declared.read.TraceparentFault.TheVariants as parent
 use Rattle.tracestate.specs.Items.{heard, items, tags}
 use Rattle.tracestate.specs.Lists.{Found, read_tracestate}
 use Rattle.tracestate.specs.Members.{Pair}
+use Rattle.fault.specs.Faults.{parent_cause}
 use Rattle.fault.specs.declared.Cause.{Cause}
 use Rattle.fault.specs.declared.Cause.TheVariants as cause
 use Rattle.propagation.specs.Changes.{Change, put, remove, origin}
@@ -23,8 +24,7 @@ decoded v = map (replaced tilde 0x3D) v
 
 -- the items of the dd value that counts
 abbrev pub items_in : Option (List ℕ) → List Pair
-items_in None = []
-items_in (Some v) = items v
+items_in value = option_map_or items value []
 
 -- a tag item `t.` becomes a tag `_dd.p.`
 abbrev pub tag_change : Pair → Change
@@ -32,20 +32,17 @@ tag_change t = put (codes "_dd.p." ++ t.key) (decoded t.value)
 
 -- the change that an item makes, if it is there
 abbrev pub if_told : (List ℕ → Change) → Option (List ℕ) → List Change
-if_told f None = []
-if_told f (Some v) = f (decoded v) ∷ []
+if_told f value = map (λ v. f (decoded v)) (option_to_list value)
 
 -- a readable priority that keeps exactly as the flags do
 abbrev pub same : Bool → Bool → Bool
 same a b = (a && b) || (not a && not b)
 
 abbrev pub if_agrees : ℤ → Option ℤ → Option ℤ
-if_agrees flags None = None
-if_agrees flags (Some z) = cond (same (keeps z) (keeps flags)) (Some z) None
+if_agrees flags number = option_and_then (λ z. cond (same (keeps z) (keeps flags)) (Some z) None) number
 
 abbrev pub agreeing : ℤ → Option (List ℕ) → Option ℤ
-agreeing flags None = None
-agreeing flags (Some s) = if_agrees flags (small (decoded s))
+agreeing flags value = option_and_then (λ s. if_agrees flags (small (decoded s))) value
 
 -- where none agrees, the flags decide, and say so as the default mechanism or by none
 abbrev pub decision : ℤ → Option ℤ → List Change
@@ -53,8 +50,7 @@ decision flags (Some z) = []
 decision flags None = cond (keeps flags) (put (codes "_dd.p.dm") (codes "-0") ∷ []) (remove (codes "_dd.p.dm") ∷ [])
 
 abbrev pub decided : ℤ → Option ℤ → ℤ
-decided flags (Some z) = z
-decided flags None = flags
+decided flags agreed = unwrap_or agreed flags
 
 -- the priority that the s item gives, if it counts
 abbrev pub s_priority : ℤ → Found → Option ℤ
@@ -82,14 +78,6 @@ told_if t value raw (Some f) =
 abbrev pub told_with : Traceparent → List ℕ → Option (List ℕ) → Told
 told_with t value None = told t value (level t.sampling_priority) []
 told_with t value (Some raw) = told_if t value raw (read_tracestate raw)
-
--- the refusals of a traceparent
-abbrev pub parent_cause : TraceparentFault → Cause
-parent_cause parent.Shape = cause.Shape
-parent_cause parent.ZeroTraceId = cause.ZeroTraceId
-parent_cause parent.ZeroSpanId = cause.ZeroSpanId
-parent_cause parent.VersionFf = cause.VersionFf
-parent_cause parent.TailAfterVersion00 = cause.TailAfterVersion00
 
 abbrev pub told_by : Result Traceparent TraceparentFault → List ℕ → Option (List ℕ) → Result Told Cause
 told_by (Err f) value state = Err (parent_cause f)

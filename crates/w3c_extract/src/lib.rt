@@ -1,2 +1,2 @@
-// The W3C form, read.
+// The W3C form, read: definitions, no code yet.
 #![tactic(auto)]

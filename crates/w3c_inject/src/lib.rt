@@ -1,2 +1,2 @@
-// The W3C form, written.
+// The W3C form, written: definitions, no code yet.
 #![tactic(auto)]

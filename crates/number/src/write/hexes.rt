@@ -2,6 +2,7 @@
 ghost use Rattle.std.specs.Prelude.{◌≡◌, ◌<◌, length};
 ghost use Rattle.number.specs.Numbers.{glyph, hex_text};
 
+// By hand: `char::from_digit` answers an Option of a `char`, and a byte is wanted.
 fn hex_digit(d: u8) -> u8
     requires { d < 16 }
     ensures { result ≡ glyph d }
@@ -14,26 +15,18 @@ pub fn fill_hex(out: &mut [u8], n: u64)
     ensures { out.new ≡ hex_text (length out.old) n }
 {
     let mut rest = n;
-    let mut at = out.len();
-    while at > 0 {
-        at -= 1;
+    // By index: tried over `iter_mut().rev()`, whose clauses do not say what the bytes then are.
+    for at in (0..out.len()).rev() {
         out[at] = hex_digit((rest % 16) as u8);
         rest /= 16;
     }
 }
 
-pub fn hex_u64(n: u64) -> [u8; 16]
-    ensures { result ≡ hex_text 16 n }
+// The last N digits of the number.
+pub fn hex_text<const N: usize>(n: u64) -> [u8; N]
+    ensures { result ≡ hex_text N n }
 {
-    let mut out = [0; 16];
+    let mut out = [0; N];
     fill_hex(&mut out, n);
-    out
-}
-
-pub fn hex_u8(n: u8) -> [u8; 2]
-    ensures { result ≡ hex_text 2 n }
-{
-    let mut out = [0; 2];
-    fill_hex(&mut out, u64::from(n));
     out
 }

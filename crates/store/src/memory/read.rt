@@ -1,28 +1,18 @@
 // What a store holds.
-ghost use Rattle.std.specs.Prelude.{◌≡◌, ◌+◌, ◌^◌, ◌<◌, ◌≤◌, length, take, drop};
+ghost use Rattle.std.specs.Prelude.{◌≡◌, ◌+◌, ◌≤◌, length, take, drop};
 ghost use Rattle.std.specs.Option.{option_map};
 ghost use Rattle.std.specs.List.{slice_get};
 ghost use Rattle.text.specs.Takes.{both};
 ghost use Rattle.store.specs.Laws.{Orderly};
-ghost use Rattle.store.specs.Layout.{total};
 ghost use Rattle.store.specs.Spots.{Spot};
 ghost use Rattle.store.specs.Stores.{held, head_of};
 ghost use Rattle.store.specs.Tags.{looked, key_of, value_of};
+ghost use Rattle.store.specs.Uses.{in_use};
+ghost use Rattle.store.specs.Walks.{left};
 
+use crate::memory::Store;
 use crate::memory::seek::{Place, seek};
-use crate::memory::{Span, Store};
-
-// How many bytes the tags of these lengths have.
-fn total_of(spans: &[Span]) -> usize
-    requires { total spans.now < 2 ^ 64 }
-    ensures { result ≡ total spans.now }
-{
-    let mut bytes = 0;
-    for span in spans {
-        bytes += span.key + span.value;
-    }
-    bytes
-}
+use crate::memory::tags::Tags;
 
 impl Store {
     // Where the tags begin.
@@ -34,36 +24,37 @@ impl Store {
 
     // A part of the text in use.
     fn part(&self, at: usize, len: usize) -> &[u8]
-        requires { at + len ≤ self.now.used }
-        ensures { result.now ≡ take len (drop at self.now.text.items) }
+        requires { at + len ≤ length (in_use self.now.text) }
+        ensures { result.now ≡ take len (drop at (in_use self.now.text)) }
     {
         let text = self.text.as_slice();
         &text[at..at + len]
+    }
+
+    // The tags in their order.
+    fn tags(&self) -> Tags<'_>
+        ensures { left result ≡ (held self.now).tags }
+    {
+        let head = self.head();
+        let text = self.text.as_slice();
+        Tags {
+            spans: self.spans.as_slice(),
+            text: &text[head..],
+        }
     }
 
     // The place of a key among the tags.
     pub(crate) fn find(&self, key: &[u8]) -> Place
         ensures { Spot key.now (held self.now).tags (head_of self.now) result }
     {
-        let head = self.head();
-        let spans = self.spans.as_slice();
-        seek(&spans[0..self.count], self.text.as_slice(), head, key)
+        seek(self.tags(), self.head(), key)
     }
 
     // The tag at that place of the order.
     fn tag_at(&self, i: usize) -> Option<(&[u8], &[u8])>
         ensures { option_map both result ≡ slice_get (held self.now).tags i }
     {
-        if i >= self.count {
-            return None;
-        }
-        let spans = self.spans.as_slice();
-        let span = spans[i];
-        let at = self.head() + total_of(&spans[0..i]);
-        Some((
-            self.part(at, span.key),
-            self.part(at + span.key, span.value),
-        ))
+        self.tags().nth(i)
     }
 
     // How many tags there are. They are in order, each key once, and lawful.
@@ -71,7 +62,7 @@ impl Store {
         ensures value { result ≡ length (held self.now).tags }
         ensures orderly { Orderly (held self.now) }
     {
-        self.count
+        self.spans.as_slice().len()
     }
 
     // The value of the key.
@@ -79,26 +70,22 @@ impl Store {
         ensures { option_map (λ x. x.now) result ≡ looked key.now (held self.now).tags }
     {
         let place = self.find(key);
-        if place.tags == 0 {
-            return None;
-        }
-        Some(self.part(place.at + key.len(), place.bytes - key.len()))
+        let own = place.own?;
+        Some(self.part(place.at + own.key, own.value))
     }
 
-    // The key at that place of the order.
+    // The key at that place of the order. The value's call differs in a part of the tag, which no parameter can name.
     pub fn key_at(&self, i: usize) -> Option<&[u8]>
         ensures { option_map (λ x. x.now) result ≡ option_map key_of (slice_get (held self.now).tags i) }
     {
-        let (key, _) = self.tag_at(i)?;
-        Some(key)
+        self.tag_at(i).map(|(key, _)| key)
     }
 
     // The value at that place of the order.
     pub fn value_at(&self, i: usize) -> Option<&[u8]>
         ensures { option_map (λ x. x.now) result ≡ option_map value_of (slice_get (held self.now).tags i) }
     {
-        let (_, value) = self.tag_at(i)?;
-        Some(value)
+        self.tag_at(i).map(|(_, value)| value)
     }
 
     // The origin.

@@ -1,47 +1,49 @@
 // Changes of what a store holds.
-ghost use Rattle.std.specs.Prelude.{◌≡◌, min, true, [], length, vec_len};
+ghost use Rattle.std.specs.Prelude.{◌≡◌, ◌+◌, ◌≤◌, ◌&&◌, cond, min, true, [], length, vec_len};
 ghost use Rattle.std.specs.Option.{option_map, unwrap_or};
+ghost use Rattle.std.specs.Result.{result_and};
 ghost use Rattle.text.specs.Texts.{lawful};
-ghost use Rattle.store.specs.Contents.{empty, cleared, put_answer, after_put, after_remove, origin_answer, after_origin, ot_answer, after_ot};
+ghost use Rattle.store.specs.Contents.{empty, cleared, verdict, put_answer, after_put, after_remove, origin_answer, after_origin, ot_answer, after_ot};
 ghost use Rattle.store.specs.Stores.{held};
+ghost use Rattle.store.specs.Uses.{has_room, in_use, replaced, room};
 
 use crate::faults::StoreFault;
+use crate::in_use::InUse;
 use crate::memory::{MAX_BYTES, MAX_TAGS, Span, Store};
-use crate::splice::replace;
 use text::check::is_lawful;
 
-// The bytes of the text, none if there is no text.
-fn bytes_of(text: Option<&[u8]>) -> &[u8]
-    ensures { result.now ≡ unwrap_or (option_map (λ x. x.now) text.entry) [] }
+// Sets a part of the text at a place, or drops it, and says how long it is then: none if it was dropped. A refusal alters nothing.
+fn set_part(
+    text: &mut InUse<u8>,
+    at: usize,
+    old: Option<usize>,
+    part: Option<&[u8]>,
+) -> Result<Option<usize>, StoreFault>
+    requires { at + unwrap_or old 0 ≤ length (in_use text.old) }
+    ensures answer { let new = option_map (λ x. x.now) part.entry in let bytes = unwrap_or new [] in result ≡ result_and (verdict (lawful bytes) (has_room text.old (unwrap_or old 0) (length bytes))) (Ok (option_map length new)) }
+    ensures items { let bytes = unwrap_or (option_map (λ x. x.now) part.entry) [] in in_use text.new ≡ cond (lawful bytes && has_room text.old (unwrap_or old 0) (length bytes)) (replaced (in_use text.old) at (unwrap_or old 0) bytes) (in_use text.old) }
+    ensures room { room text.new ≡ room text.old }
 {
-    match text {
-        Some(s) => s,
-        None => b"",
+    let new = part.unwrap_or(b"");
+    let old = old.unwrap_or(0);
+    if !is_lawful(new) {
+        return Err(StoreFault::Unlawful);
     }
-}
-
-// How long the text is, if there is one.
-fn len_of(text: Option<&[u8]>) -> Option<usize>
-    ensures { result ≡ option_map length (option_map (λ x. x.now) text.entry) }
-{
-    match text {
-        Some(s) => Some(s.len()),
-        None => None,
+    if !text.has_room(old, new.len()) {
+        return Err(StoreFault::Full);
     }
+    text.replace(at, old, new);
+    Ok(part.map(|s| s.len()))
 }
 
 impl Store {
     // An empty store in the memory handed in, of which it uses what is within the limits.
-    pub fn new(mut spans: Vec<Span>, mut text: Vec<u8>) -> Store
+    pub fn new(spans: Vec<Span>, text: Vec<u8>) -> Store
         ensures { held result ≡ empty (min (vec_len spans) 256) (min (vec_len text) 65536) }
     {
-        spans.truncate(MAX_TAGS);
-        text.truncate(MAX_BYTES);
         Store {
-            spans,
-            text,
-            count: 0,
-            used: 0,
+            spans: InUse::new(spans, MAX_TAGS),
+            text: InUse::new(text, MAX_BYTES),
             origin: None,
             ot: None,
         }
@@ -51,8 +53,8 @@ impl Store {
     pub fn clear(&mut self)
         ensures { held self.new ≡ cleared (held self.old) }
     {
-        self.count = 0;
-        self.used = 0;
+        self.spans.clear();
+        self.text.clear();
         self.origin = None;
         self.ot = None;
     }
@@ -65,27 +67,17 @@ impl Store {
         ensures after { held self.new ≡ after_put (held self.old) key.now value.now }
     {
         let place = self.find(key);
-        let (used, count) = (self.used, self.count);
-        let (left, kept) = (used - place.bytes, count - place.tags);
-        let room = self.text.len() - left;
-        if kept >= self.spans.len() || key.len() > room || value.len() > room - key.len() {
+        let (tags, bytes) = (place.tags(), place.bytes());
+        if !self.spans.has_room(tags, 1) || !self.text.has_room(bytes, key.len() + value.len()) {
             return Err(StoreFault::Full);
         }
-        replace(&mut self.text, used, place.at, place.bytes, key);
-        replace(
-            &mut self.text,
-            left + key.len(),
-            place.at + key.len(),
-            0,
-            value,
-        );
+        self.text.replace(place.at, bytes, key);
+        self.text.replace(place.at + key.len(), 0, value);
         let span = [Span {
             key: key.len(),
             value: value.len(),
         }];
-        replace(&mut self.spans, count, place.index, place.tags, &span);
-        self.count = kept + 1;
-        self.used = left + key.len() + value.len();
+        self.spans.replace(place.index, tags, &span);
         Ok(())
     }
 
@@ -106,11 +98,8 @@ impl Store {
         ensures { held self.new ≡ after_remove (held self.old) key.now }
     {
         let place = self.find(key);
-        let (used, count) = (self.used, self.count);
-        replace(&mut self.text, used, place.at, place.bytes, b"");
-        replace(&mut self.spans, count, place.index, place.tags, &[]);
-        self.count = count - place.tags;
-        self.used = used - place.bytes;
+        self.text.replace(place.at, place.bytes(), b"");
+        self.spans.replace(place.index, place.tags(), &[]);
     }
 
     // Sets the origin, or drops it. A refusal alters nothing, and dropping is never refused.
@@ -118,18 +107,7 @@ impl Store {
         ensures answer { result ≡ origin_answer (held self.old) (option_map (λ x. x.now) origin.entry) }
         ensures after { held self.new ≡ after_origin (held self.old) (option_map (λ x. x.now) origin.entry) }
     {
-        let new = bytes_of(origin);
-        if !is_lawful(new) {
-            return Err(StoreFault::Unlawful);
-        }
-        let (used, old) = (self.used, self.origin.unwrap_or(0));
-        let left = used - old;
-        if new.len() > self.text.len() - left {
-            return Err(StoreFault::Full);
-        }
-        replace(&mut self.text, used, 0, old, new);
-        self.origin = len_of(origin);
-        self.used = left + new.len();
+        self.origin = set_part(&mut self.text, 0, self.origin, origin)?;
         Ok(())
     }
 
@@ -138,19 +116,8 @@ impl Store {
         ensures answer { result ≡ ot_answer (held self.old) (option_map (λ x. x.now) ot.entry) }
         ensures after { held self.new ≡ after_ot (held self.old) (option_map (λ x. x.now) ot.entry) }
     {
-        let new = bytes_of(ot);
-        if !is_lawful(new) {
-            return Err(StoreFault::Unlawful);
-        }
         let at = self.origin.unwrap_or(0);
-        let (used, old) = (self.used, self.ot.unwrap_or(0));
-        let rest = used - old;
-        if new.len() > self.text.len() - rest {
-            return Err(StoreFault::Full);
-        }
-        replace(&mut self.text, used, at, old, new);
-        self.ot = len_of(ot);
-        self.used = rest + new.len();
+        self.ot = set_part(&mut self.text, at, self.ot, ot)?;
         Ok(())
     }
 }

@@ -1,15 +1,12 @@
-use Rattle.std.proofs.Common.{◌∙◌}
-use Rattle.block.proofs.Looks.{none_found, found_here, found_later, shorter}
+use borrow.Author.Tests.{tests}
+use Rattle.std.proofs.Common.{rules}
+use Rattle.std.proofs.lemmas.Iterator.Search.{find_from_yields_List}
+use Rattle.std.specs.Str.{bytes_eq}
+use Rattle.block.proofs.Looks.{found_is}
+use Rattle.block.proofs.Roads.{lines_road}
 use Rattle.block.proofs.look.find.Goals as goal
 
-pub returns-then-same : goal.returns-then-same
-returns-then-same c = found_here c.loop-line.rest.now _ _ _ c.in-Some.ensures c.args.name.now c.if-same.ensures ∙ c.loop-line.invariant
-
-pub loop-line-smaller : goal.loop-line-smaller
-loop-line-smaller c = shorter c.loop-line.rest.now _ _ _ c.in-Some.ensures
-
-pub loop-line-preserved : goal.loop-line-preserved
-loop-line-preserved c = found_later c.loop-line.rest.now _ _ _ c.in-Some.ensures c.args.name.now c.if-same.ensures ∙ c.loop-line.invariant
-
 pub returns : goal.returns
-returns c = none_found c.loop-line.rest.now c.args.name.now c.in_default.ensures ∙ c.loop-line.invariant
+returns c =
+    let found = find_from_yields_List (λ l. bytes_eq l.name c.args.name.now) c.find.new.self _ c.find.result c.find.ensures.ran (lines_road c.args.block) (λ x b q k. search (rules, tests)) in
+    let shown = found_is c.args.block.now c.args.name.now _ found in search rules

@@ -1,13 +1,13 @@
-use Rattle.std.proofs.Common.{◌≡◌, ◌-◌, not, length, take, ap, ◌∙◌, arith}
-use Rattle.block.specs.Blocks.{named}
-use Rattle.block.specs.Lines.{lines_of}
-use Rattle.block.proofs.Looks.{none_named}
+use borrow.Author.Tests.{tests}
+use Rattle.std.proofs.Common.{not, ap, rules}
+use Rattle.std.proofs.lemmas.Iterator.{YieldsList-from_take}
+use Rattle.std.proofs.lemmas.Iterator.Consumers.{YieldsList-at}
+use Rattle.std.proofs.lemmas.Iterator.Search.{any_from_yields_List}
+use Rattle.std.specs.Str.{bytes_eq}
+use Rattle.block.proofs.Roads.{lines_road}
 use Rattle.block.proofs.look.is_new.Goals as goal
 
 pub returns : goal.returns
 returns c =
-    let block = c.args.block.now in
-    let n = length block - c.args.left in
-    let whole : n - 0 ≡ n = omega arith in
-    none_named c.is_none.result c.find.result (take (n - 0) block) c.args.name.now c.find.ensures c.is_none.ensures
-    ∙ ap (λ k. not (named c.args.name.now (lines_of (take k block)))) whole
+    ap not (any_from_yields_List (λ l. bytes_eq l.name c.args.name.now) c.any.new.self _ c.any.result c.any.ensures.ran
+    (YieldsList-from_take c.args.at (YieldsList-at c.take.ensures.source (lines_road c.args.block)) c.take.ensures.count) (λ x b q k. search (rules, tests)))

@@ -1,25 +1,22 @@
-use Rattle.block.proofs.Passing.{passed-within, left_shorter, sought_none, sought_here, sought_new, sought_old, sought_all}
+use borrow.Author.Tests.{tests}
+use Rattle.std.proofs.Common.{filter, sym, ap, ◌∙◌, rules}
+use Rattle.std.proofs.lemmas.Iterator.Consumers.{YieldsList-at, YieldsList-from_enumerate, YieldsList-from_filter, nth_from_yields_List}
+use Rattle.std.proofs.lemmas.Option.{slice_get-map}
+use Rattle.std.specs.List.{enumerate_from, slice_get}
+use Rattle.std.specs.Option.{option_map}
+use Rattle.block.specs.Lines.{lines_of}
+use Rattle.block.proofs.Listing.{is_first, name_of, names_by_place}
+use Rattle.block.proofs.Roads.{lines_road, lines-few}
 use Rattle.block.proofs.look.name_at.Goals as goal
-use Rattle.block.proofs.look.name_at.Goals.{then-is_new+else-before-eq0, else-is_new}
 
-pub is_new-requires : goal.is_new-requires
-is_new-requires c = passed-within c.args.block.now c.loop-line.rest.now c.loop-line.invariant.passed
-
-pub returns-then-before-eq0 : goal.returns-then-before-eq0
-returns-then-before-eq0 c = sought_here c.args.block.now c.loop-line.rest.now _ _ _ c.loop-line.before c.args.at c.loop-line.invariant c.in-Some.ensures c.if-is_new.ensures c.if-before-eq0.true
-
-pub loop-line-smaller : goal.loop-line-smaller
-loop-line-smaller c = left_shorter c.args.block.now c.loop-line.rest.now _ _ _ c.loop-line.invariant.passed c.in-Some.ensures
-
-pub loop-line-preserved : goal.loop-line-preserved
-loop-line-preserved c =
-    elim c.if-is_new.branch [
-      | then-is_new+else-before-eq0 w ↦ rw w.before-is (sought_new c.args.block.now c.loop-line.rest.now _ _ _ c.loop-line.before c.args.at c.loop-line.invariant c.in-Some.ensures w.if-is_new.ensures w.if-before-eq0.false)
-      | else-is_new w ↦ rw w.before-is (sought_old c.args.block.now c.loop-line.rest.now _ _ _ c.loop-line.before c.args.at c.loop-line.invariant c.in-Some.ensures w.if-is_new.ensures)
-    ]
-
-pub loop-line-init : goal.loop-line-init
-loop-line-init c = sought_none c.args.block.now c.args.at
+pub nth-requires : goal.nth-requires
+nth-requires c = let few = lines-few c.args.block.now in search rules
 
 pub returns : goal.returns
-returns c = sought_all c.args.block.now c.loop-line.rest.now c.loop-line.before c.args.at c.loop-line.invariant c.in_default.ensures
+returns c =
+    let ls = lines_of c.args.block.now in
+    let found = nth_from_yields_List c.nth.result c.nth.new.self c.args.at c.nth.ensures.ran
+    (YieldsList-from_filter _ (is_first ls) (YieldsList-at c.filter.ensures.source (YieldsList-from_enumerate (YieldsList-at c.enumerate.ensures.source (lines_road c.args.block)) c.enumerate.ensures.count))
+    c.filter.ensures.closure (λ x b q k. search (rules, tests))) in
+    let name = ap (option_map name_of) found ∙ sym (slice_get-map name_of (filter (is_first ls) (enumerate_from 0 ls)) c.args.at) ∙ ap (λ ns. slice_get ns c.args.at) (names_by_place ls) in
+    search rules

@@ -1,17 +1,16 @@
-use Rattle.std.proofs.Common.{◌∙◌}
-use Rattle.statelist.proofs.Carries.{carried_here, carried_later, carried_nowhere}
+use Rattle.std.proofs.Common.{◌∙◌, rules, tests}
+use Rattle.std.proofs.lemmas.Iterator.Consumers.{YieldsList-from_first}
+use Rattle.std.proofs.lemmas.Iterator.Search.{any_from_yields_List}
+use Rattle.statelist.specs.Written.{has_value}
+use Rattle.statelist.proofs.Carries.{sought}
 use Rattle.statelist.proofs.choose.carries_ot.Goals as goal
 use Rattle.text.specs.Cursors.{left}
-
-pub returns-then-is_ot_member : goal.returns-then-is_ot_member
-returns-then-is_ot_member c =
-    carried_here c.args.value.now (left c.loop-piece.pieces) c.in-Some.piece.now c.trim.result.now (left c.next.new.self) c.in-Some.ensures.piece c.next.ensures.after c.trim.ensures c.if-is_ot_member.ensures
-    ∙ c.loop-piece.invariant
-
-pub loop-piece-preserved : goal.loop-piece-preserved
-loop-piece-preserved c =
-    carried_later c.args.value.now (left c.loop-piece.pieces) c.in-Some.piece.now c.trim.result.now (left c.next.new.self) c.in-Some.ensures.piece c.next.ensures.after c.trim.ensures c.if-is_ot_member.ensures
-    ∙ c.loop-piece.invariant
+use Rattle.text.specs.Splits.{pieces}
+use Rattle.text.specs.Trims.{trimmed}
+use Rattle.tracestate.specs.Members.{member_of}
 
 pub returns : goal.returns
-returns c = carried_nowhere c.args.value.now (left c.loop-piece.pieces) c.in_default.ensures.piece ∙ c.loop-piece.invariant
+returns c =
+    let v = c.args.value.now in
+    let ps = pieces 0x2C c.args.carried.now in
+    any_from_yields_List (λ p. has_value v (member_of (trimmed p))) _ _ _ c.any.ensures.ran (YieldsList-from_first (λ x. x.now) left ps c.new.ensures) (λ x b q k. search (rules, tests)) ∙ sought v ps

@@ -1,5 +1,5 @@
 use Rattle.std.proofs.Common.{sym, ◌∙◌, arith}
-use Rattle.text.proofs.Replaces.{replaced_more, kept_more, replaced-all}
+use Rattle.text.proofs.Replaces.{replaced_more, kept_more}
 use Rattle.text.proofs.replace.replace_chars.Goals as goal
 use Rattle.text.proofs.replace.replace_chars.Goals.{then-test, else-test}
 
@@ -9,6 +9,3 @@ loop-x-preserved g c =
       | then-test w ↦ w.text-is ∙ replaced_more g.S.ByteTest.holds c.args.by c.args.text.now c.loop-x.text c.loop-x.x-index (omega arith) (omega arith) c.loop-x.invariant (sym c.test.ensures ∙ w.if-test.true)
       | else-test w ↦ w.text-is ∙ kept_more g.S.ByteTest.holds c.args.by c.args.text.now c.loop-x.text c.loop-x.x-index (omega arith) (omega arith) c.loop-x.invariant (sym c.test.ensures ∙ w.if-test.false)
     ]
-
-pub returns : goal.returns
-returns g c = replaced-all g.S.ByteTest.holds c.args.by c.args.text.now c.loop-x.text c.loop-x.x-index (omega arith) c.loop-x.invariant

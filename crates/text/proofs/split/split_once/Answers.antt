@@ -1,9 +1,15 @@
-use Rattle.std.proofs.Common.{sym, arith}
-use Rattle.text.proofs.Cuts.{split_cut, split_none}
+use Rattle.std.proofs.Common.{◌+◌, take, drop, Some, sym, ap, ◌∙◌, rules}
+use Rattle.std.proofs.lemmas.List.{take_rest}
+use Rattle.std.specs.Option.{option_map}
+use Rattle.text.proofs.Cuts.{split-position}
 use Rattle.text.proofs.split.split_once.Goals as goal
 
-pub returns-then-at-s : goal.returns-then-at-s
-returns-then-at-s c = split_cut c.args.c c.args.s.now c.first_at-at.result c.first_at-at.ensures c.if-at-s.true
+pub returns-in_err-at : goal.returns-in_err-at
+returns-in_err-at c = let e = split-position c.args.c c.args.s.now in search rules
 
-pub returns-else-at-s : goal.returns-else-at-s
-returns-else-at-s c = sym (split_none c.args.c c.args.s.now (omega arith))
+pub returns : goal.returns
+returns c =
+    let s = c.args.s.now in
+    let at = c.in_ok-at.at in
+    (λ i. Some (take at s, take_rest s (at + 1) i))
+    ∙ sym (split-position c.args.c s ∙ ap (option_map (λ n. (take n s, drop (n + 1) s))) (sym c.place_of.ensures ∙ c.in_ok-at.was))

@@ -1,15 +1,13 @@
-use Rattle.std.proofs.Common.{◌∙◌}
+use Rattle.std.proofs.Common.{refl, ◌∙◌, rules, tests}
+use Rattle.std.proofs.lemmas.Iterator.Consumers.{YieldsList-from_first}
+use Rattle.std.proofs.lemmas.Iterator.Search.{any_from_yields_List}
 use Rattle.text.specs.Cursors.{left}
-use Rattle.tracestate.proofs.Tagging.{key_here, key_later, key_nowhere}
+use Rattle.tracestate.specs.Items.{item_of, key_in}
+use Rattle.tracestate.proofs.Tagging.{sought}
 use Rattle.tracestate.proofs.items.is_replaced.Goals as goal
 
-pub returns-then-has_key : goal.returns-then-has_key
-returns-then-has_key c =
-    key_here c.args.key.now (left c.loop-piece.pieces) c.in-Some.piece.now (left c.next.new.self) c.in-Some.ensures.piece c.next.ensures.after c.if-has_key.ensures ∙ c.loop-piece.invariant
-
-pub loop-piece-preserved : goal.loop-piece-preserved
-loop-piece-preserved c =
-    key_later c.args.key.now (left c.loop-piece.pieces) c.in-Some.piece.now (left c.next.new.self) c.in-Some.ensures.piece c.next.ensures.after c.if-has_key.ensures ∙ c.loop-piece.invariant
-
 pub returns : goal.returns
-returns c = key_nowhere c.args.key.now (left c.loop-piece.pieces) c.in_default.ensures.piece ∙ c.loop-piece.invariant
+returns c =
+    let key = c.args.key.now in
+    let pieces = left c.args.later in
+    any_from_yields_List (λ p. key_in key (item_of p)) _ _ _ c.any.ensures.ran (YieldsList-from_first (λ x. x.now) left pieces refl) (λ x b q k. search (rules, tests)) ∙ sought key pieces

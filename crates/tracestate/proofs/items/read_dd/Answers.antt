@@ -1,18 +1,21 @@
-use Rattle.std.proofs.Common.{ap, ◌∙◌}
+use Rattle.std.proofs.Common.{◌≡◌, ap, ◌∙◌, rules, tests}
+use Rattle.std.proofs.lemmas.Iterator.Consumers.{YieldsList-at, YieldsList-from_first}
+use Rattle.std.specs.List.{filter_map, fold}
 use Rattle.text.specs.Cursors.{left}
 use Rattle.text.specs.Splits.{pieces}
-use Rattle.tracestate.specs.Items.{says}
-use Rattle.tracestate.proofs.Hearing.{hear_on, silence, hears_all, next_heard, all-heard}
+use Rattle.text.specs.Trims.{trimmed}
+use Rattle.tracestate.specs.Items.{hear, says, told}
+use Rattle.tracestate.proofs.Folds.{fold-viewed, YieldsList-from_filter_map_by}
+use Rattle.tracestate.proofs.Hearing.{silence, kind_in, hears_all}
 use Rattle.tracestate.proofs.items.read_dd.Goals as goal
 
-pub loop-piece-init : goal.loop-piece-init
-loop-piece-init c = ap (hear_on silence) (c.new-pieces.ensures ∙ ap (pieces 0x3B) c.trim.ensures) ∙ hears_all c.args.value.now
-
-pub loop-piece-preserved : goal.loop-piece-preserved
-loop-piece-preserved c =
-    ap (λ h. hear_on h (left c.next.new.self)) c.hear_piece-dd.ensures
-    ∙ next_heard (says c.loop-piece.dd) (left c.loop-piece.pieces) c.in-Some.piece.now (left c.next.new.self) c.in-Some.ensures.piece c.next.ensures.after
-    ∙ c.loop-piece.invariant
-
 pub returns : goal.returns
-returns c = all-heard (says c.loop-piece.dd) (left c.loop-piece.pieces) c.in_default.ensures.piece ∙ c.loop-piece.invariant
+returns c =
+    let ps = pieces 0x3B (trimmed c.args.value.now) in
+    let start : says c.default.result ≡ silence = cc in
+    let whole : left c.new.result ≡ ps = c.new.ensures ∙ ap (pieces 0x3B) c.trim.ensures in
+    fold-viewed says _ hear c.fold.ensures.ran
+    (YieldsList-from_filter_map_by _ _ told _ kind_in _ (λ x r q k. search (rules, tests)) (YieldsList-at c.filter_map.ensures.source (YieldsList-from_first (λ x. x.now) left ps whole)) c.filter_map.ensures.closure)
+    (λ a x b q k. search (rules, tests))
+    ∙ ap (λ h. fold hear h (filter_map kind_in ps)) start
+    ∙ hears_all c.args.value.now

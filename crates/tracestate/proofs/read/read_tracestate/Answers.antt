@@ -1,36 +1,17 @@
-use Rattle.std.proofs.Common.{◌+◌, ◌-◌, take, sym, ap, ◌∙◌, arith}
-use Rattle.std.specs.Option.{option_map}
+use Rattle.std.proofs.Common.{◌≡◌, ap, ◌∙◌, take, rules, tests}
+use Rattle.std.proofs.lemmas.Iterator.{YieldsList-from_take}
+use Rattle.std.proofs.lemmas.Iterator.Consumers.{YieldsList-at, YieldsList-from_first}
 use Rattle.text.specs.Cursors.{left}
-use Rattle.tracestate.specs.Lists.{shown}
-use Rattle.tracestate.proofs.Reading.{bind, read_on, nothing, reads_all, next_piece, no_piece, enough}
+use Rattle.text.specs.Splits.{pieces}
+use Rattle.tracestate.specs.Lists.{read_piece, shown}
+use Rattle.tracestate.proofs.Folds.{fold_while, try_fold-viewed}
+use Rattle.tracestate.proofs.Reading.{nothing, reads_all}
 use Rattle.tracestate.proofs.read.read_tracestate.Goals as goal
-use Rattle.tracestate.proofs.read.read_tracestate.Goals.{else-loop-n-test, then-loop-n-test+in_default}
-
-pub loop-n-init : goal.loop-n-init
-loop-n-init c = ap (λ ps. read_on nothing (take 32 ps)) c.new-pieces.ensures ∙ reads_all c.args.s.now
-
-pub returns-in_err-found : goal.returns-in_err-found
-returns-in_err-found c =
-    let found = shown c.loop-n.found in
-    let ps = left c.loop-n.pieces in
-    let rest = left c.next.new.self in
-    let step = next_piece found ps c.loop-n._n c.in-Some.piece.now rest (omega arith) c.in-Some.ensures.piece c.next.ensures.after in
-    ap (option_map shown) c.from_residual.ensures
-    ∙ sym (sym c.loop-n.invariant ∙ step ∙ ap (λ o. bind o (λ g. read_on g (take (32 - (c.loop-n._n + 1)) rest))) (sym c.in_err-found.ensures))
-
-pub loop-n-preserved : goal.loop-n-preserved
-loop-n-preserved c =
-    let found = shown c.loop-n.found in
-    let ps = left c.loop-n.pieces in
-    let rest = left c.next.new.self in
-    let step = next_piece found ps c.loop-n._n c.in-Some.piece.now rest (omega arith) c.in-Some.ensures.piece c.next.ensures.after in
-    sym (step ∙ ap (λ o. bind o (λ g. read_on g (take (32 - (c.loop-n._n + 1)) rest))) (sym c.in_ok-found.ensures)) ∙ c.loop-n.invariant
 
 pub returns : goal.returns
 returns c =
-    let found = shown c.loop-n.found in
-    let ps = left c.loop-n.pieces in
-    elim c.loop-n-test.branch [
-      | else-loop-n-test w ↦ sym (enough found ps c.loop-n._n w.loop-n-test.false) ∙ c.loop-n.invariant
-      | then-loop-n-test+in_default w ↦ sym (no_piece found ps c.loop-n._n w.in_default.ensures.piece) ∙ c.loop-n.invariant
-    ]
+    let start : shown c.default.result ≡ nothing = cc in
+    let s = c.args.s.now in
+    let items = YieldsList-from_take 32 (YieldsList-at c.take.ensures.source (YieldsList-from_first (λ x. x.now) left (pieces 0x2C s) c.new.ensures)) c.take.ensures.count in
+    try_fold-viewed _ _ _ shown _ read_piece _ (λ a x b q k. search (rules, tests)) c.try_fold.ensures.ran items
+    ∙ ap (λ f. fold_while read_piece f (take 32 (pieces 0x2C s))) start ∙ reads_all s

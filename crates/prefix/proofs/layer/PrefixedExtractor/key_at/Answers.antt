@@ -1,26 +1,18 @@
-use Rattle.std.proofs.Common.{arith}
+use Rattle.std.proofs.Common.{◌≡◌, ◌∙◌, ap, length, filter, rules, tests, arith}
+use Rattle.std.proofs.lemmas.Iterator.{YieldsList-from_range}
+use Rattle.std.proofs.lemmas.Iterator.Consumers.{nth_from_yields_List, YieldsList-from_filter}
+use Rattle.std.specs.List.{slice_get, range_with_len}
+use Rattle.std.specs.Option.{option_map, option_and_then}
 use Rattle.prefix.specs.Prefixes.{front}
-use Rattle.prefix.proofs.Listing.{left-same, left_less, left_here, left_none}
+use Rattle.prefix.proofs.Listing.{here, has_name, name_at}
 use Rattle.prefix.proofs.layer.PrefixedExtractor.key_at.Goals as goal
-use Rattle.prefix.proofs.layer.PrefixedExtractor.key_at.Goals.{in-Some+else-left-eq0, in_default}
-
-pub returns-then-left-eq0 : goal.returns-then-left-eq0
-returns-then-left-eq0 g c =
-    let p = front c.args.self.now.prefix in
-    let ks = g.C.Extractor.order c.args.self.now.below in
-    left_here p ks c.loop-i.i (omega (arith, c.key_count-i-end.ensures.count)) c.in-Some.name.now c.args.at c.loop-i.left c.in-Some.ensures c.if-left-eq0.true c.loop-i.invariant
-
-pub loop-i-preserved : goal.loop-i-preserved
-loop-i-preserved g c =
-    let p = front c.args.self.now.prefix in
-    let ks = g.C.Extractor.order c.args.self.now.below in
-    elim c.match-key_below.branch [
-      | in-Some+else-left-eq0 w ↦ rw w.left-is (left_less p ks c.loop-i.i (omega (arith, c.key_count-i-end.ensures.count)) w.in-Some.name.now c.args.at c.loop-i.left w.in-Some.ensures w.if-left-eq0.false c.loop-i.invariant)
-      | in_default w ↦ rw w.left-is (left-same p ks c.loop-i.i (omega (arith, c.key_count-i-end.ensures.count)) c.args.at c.loop-i.left w.in_default.ensures c.loop-i.invariant)
-    ]
 
 pub returns : goal.returns
 returns g c =
     let p = front c.args.self.now.prefix in
     let ks = g.C.Extractor.order c.args.self.now.below in
-    left_none p ks c.loop-i.i (omega (arith, c.key_count-i-end.ensures.count)) c.args.at c.loop-i.left c.loop-i.invariant
+    let found : option_map (λ x. x) c.nth.result ≡ slice_get (filter (has_name p ks) (range_with_len 0 (length ks))) c.args.at =
+    nth_from_yields_List _ _ _ c.nth.ensures.ran (YieldsList-from_filter _ (has_name p ks) (YieldsList-from_range 0 c.key_count.result (length ks) (cc) (omega (arith, c.key_count.ensures.count))) c.filter.ensures.closure (λ x r q k. search (rules, tests)))
+    in
+    let named : option_map (λ x. x.now) c.and_then.result ≡ option_and_then (here p ks) (option_map (λ x. x) c.nth.result) = search (rules, tests) in
+    named ∙ ap (option_and_then (here p ks)) found ∙ name_at p ks c.args.at

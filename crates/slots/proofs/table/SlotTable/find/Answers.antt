@@ -1,15 +1,12 @@
-use Rattle.std.proofs.Common.{arith}
-use Rattle.slots.proofs.Sought.{sound-at, sought_here, sought_more, sought_all}
+use Rattle.std.proofs.Common.{◌∙◌, rules, tests}
+use Rattle.std.proofs.lemmas.Iterator.{YieldsList-from_slice}
+use Rattle.std.proofs.lemmas.Iterator.Search.{position_from_yields_List}
+use Rattle.slots.specs.Places.{named}
+use Rattle.slots.specs.Slots.{place_of}
+use Rattle.slots.proofs.Searching.{searched}
 use Rattle.slots.proofs.table.SlotTable.find.Goals as goal
 
-pub is_named-requires : goal.is_named-requires
-is_named-requires c = sound-at c.args.self.now.slots c.loop-i.i _ c.args.self.now.lawful (omega arith)
-
-pub returns-then-is_named : goal.returns-then-is_named
-returns-then-is_named c = sought_here _ c.args.self.now.slots c.loop-i.i _ (omega arith) c.if-is_named.ensures c.loop-i.invariant
-
-pub loop-i-preserved : goal.loop-i-preserved
-loop-i-preserved c = sought_more _ c.args.self.now.slots c.loop-i.i _ (omega arith) c.if-is_named.ensures c.loop-i.invariant
-
 pub returns : goal.returns
-returns c = sought_all _ c.args.self.now.slots c.loop-i.i 16 (omega arith) (omega arith) (omega arith) c.loop-i.invariant
+returns c =
+    position_from_yields_List (λ s. named c.args.name.now (place_of s)) _ _ _ c.position.ensures.ran (YieldsList-from_slice c.args.self.now.slots cc) (λ x b q k. search (rules, tests))
+    ∙ searched (named c.args.name.now) c.args.self.now.slots

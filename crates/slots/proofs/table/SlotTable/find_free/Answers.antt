@@ -1,12 +1,12 @@
-use Rattle.std.proofs.Common.{arith}
-use Rattle.slots.proofs.Sought.{sought_here, sought_more, sought_all}
+use Rattle.std.proofs.Common.{◌∙◌, rules, tests}
+use Rattle.std.proofs.lemmas.Iterator.{YieldsList-from_slice}
+use Rattle.std.proofs.lemmas.Iterator.Search.{position_from_yields_List}
+use Rattle.slots.specs.Places.{free}
+use Rattle.slots.specs.Slots.{place_of}
+use Rattle.slots.proofs.Searching.{searched}
 use Rattle.slots.proofs.table.SlotTable.find_free.Goals as goal
 
-pub returns-then-is_free : goal.returns-then-is_free
-returns-then-is_free c = sought_here _ c.args.self.now.slots c.loop-i.i _ (omega arith) c.if-is_free.ensures c.loop-i.invariant
-
-pub loop-i-preserved : goal.loop-i-preserved
-loop-i-preserved c = sought_more _ c.args.self.now.slots c.loop-i.i _ (omega arith) c.if-is_free.ensures c.loop-i.invariant
-
 pub returns : goal.returns
-returns c = sought_all _ c.args.self.now.slots c.loop-i.i 16 (omega arith) (omega arith) (omega arith) c.loop-i.invariant
+returns c =
+    position_from_yields_List (λ s. free (place_of s)) _ _ _ c.position.ensures.ran (YieldsList-from_slice c.args.self.now.slots cc) (λ x b q k. search (rules, tests))
+    ∙ searched free c.args.self.now.slots

@@ -1,23 +1,14 @@
-use Rattle.std.proofs.Common.{ℕ, List, Some, ap, ◌∙◌, arith}
-use Rattle.slots.proofs.Listing.{left-free, left_used, left_here, left_none}
-use Rattle.slots.proofs.Sought.{sound-at}
+use Rattle.std.proofs.Common.{◌≡◌, ◌∙◌, ap, filter, rules, tests}
+use Rattle.std.proofs.lemmas.Iterator.{YieldsList-from_slice}
+use Rattle.std.proofs.lemmas.Iterator.Consumers.{nth_from_yields_List, YieldsList-from_filter}
+use Rattle.std.specs.List.{slice_get}
+use Rattle.std.specs.Option.{option_map, option_and_then}
+use Rattle.slots.proofs.Listing.{used, name_in, name_at}
 use Rattle.slots.proofs.table.SlotTableExtractor.key_at.Goals as goal
-use Rattle.slots.proofs.table.SlotTableExtractor.key_at.Goals.{then-not-is_free+else-left-eq0, else-not-is_free}
-
-pub name-requires : goal.name-requires
-name-requires c = sound-at c.args.self.now.slots c.loop-i.i _ c.args.self.now.lawful (omega arith)
-
-pub returns-then-left-eq0 : goal.returns-then-left-eq0
-returns-then-left-eq0 c =
-    ap (λ (n : List ℕ). Some n) c.name.ensures
-    ∙ left_here c.args.self.now.slots c.loop-i.i _ (omega arith) c.args.at c.loop-i.left c.if-not-is_free.ensures c.if-left-eq0.true c.loop-i.invariant
-
-pub loop-i-preserved : goal.loop-i-preserved
-loop-i-preserved c =
-    elim c.if-not-is_free.branch [
-      | then-not-is_free+else-left-eq0 w ↦ rw w.left-is (left_used c.args.self.now.slots c.loop-i.i _ (omega arith) c.args.at c.loop-i.left w.if-not-is_free.ensures w.if-left-eq0.false c.loop-i.invariant)
-      | else-not-is_free w ↦ rw w.left-is (left-free c.args.self.now.slots c.loop-i.i _ (omega arith) c.args.at c.loop-i.left w.if-not-is_free.ensures c.loop-i.invariant)
-    ]
 
 pub returns : goal.returns
-returns c = left_none c.args.self.now.slots c.loop-i.i (omega arith) c.args.at c.loop-i.left c.loop-i.invariant
+returns c =
+    let ss = c.args.self.now.slots in
+    let found : option_map (λ x. x.now) c.nth.result ≡ slice_get (filter used ss) c.args.at = nth_from_yields_List _ _ _ c.nth.ensures.ran (YieldsList-from_filter _ used (YieldsList-from_slice ss cc) c.filter.ensures.closure (λ x r q k. search (rules, tests))) in
+    let named : option_map (λ x. x.now) c.and_then.result ≡ option_and_then name_in (option_map (λ x. x.now) c.nth.result) = search (rules, tests) in
+    named ∙ ap (option_and_then name_in) found ∙ name_at ss c.args.at

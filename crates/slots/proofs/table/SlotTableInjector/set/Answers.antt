@@ -1,47 +1,38 @@
 use Rattle.std.proofs.Common.{length, sym, ap, ◌∙◌, arith, length-set, rules}
+use Rattle.std.proofs.lemmas.Bool.{and_from}
+use Rattle.std.specs.List.{list_all}
 use Rattle.carrier.specs.Names.{distinct}
-use Rattle.slots.specs.Places.{Places, names}
-use Rattle.slots.specs.Rules.{roomy}
+use Rattle.slots.specs.Places.{lawful_place, Places, names}
 use Rattle.slots.specs.Slots.{places_of}
-use Rattle.slots.proofs.Keeping.{sound-set, once-put}
-use Rattle.slots.proofs.Placing.{slot_room, slot_place, slot_within, stored, taken-answer, taken-after}
+use Rattle.slots.proofs.Keeping.{lawful-put, once-put}
+use Rattle.slots.proofs.Setting.{name-fits, slot_room, slot_within, stored, taken}
 use Rattle.slots.proofs.table.SlotTableInjector.set.Goals as goal
 
-pub bounds-self-i : goal.bounds-self-i
-bounds-self-i c = let h = slot_within c.args.self.now.slots c.args.name.now (length c.args.value.now) c.in-Some.i c.in-Some.ensures in omega arith
+pub bounds-self-at : goal.bounds-self-at
+bounds-self-at c = let h = slot_within c.args.self.now.slots c.args.name.now (length c.args.value.now) c.in_ok-at.at (sym c.in_ok-at.ensures.ok_part ∙ c.slot_for.ensures) in omega arith
 
-pub offset_bounds-self-i : goal.offset_bounds-self-i
-offset_bounds-self-i c = let h = slot_within c.args.self.now.slots c.args.name.now (length c.args.value.now) c.in-Some.i c.in-Some.ensures in search rules
+pub offset_bounds-self-at : goal.offset_bounds-self-at
+offset_bounds-self-at c = let h = slot_within c.args.self.now.slots c.args.name.now (length c.args.value.now) c.in_ok-at.at (sym c.in_ok-at.ensures.ok_part ∙ c.slot_for.ensures) in search rules
 
-pub fill-requires : goal.fill-requires
-fill-requires c =
-    let ss = c.args.self.now.slots in
-    let v = length c.args.value.now in
-    let room = slot_room ss c.args.name.now v c.in-Some.i c.in-Some.ensures in
-    record {
-      names = sym c.if-not-is_name.ensures;
-      values = sym c.if-not-is_lawful.ensures;
-      fits = (roomy (places_of ss) c.args.name.now v room).length;
-    }
+pub fill-requires-clause-name : goal.fill-requires-clause-name
+fill-requires-clause-name c = name-fits c.args.name.now (sym c.if-not-is_name.ensures)
 
 pub invariant_of-self : goal.invariant_of-self
 invariant_of-self c =
     let ss = c.args.self.now.slots in
     let n = c.args.name.now in
-    let at = slot_place ss n (length c.args.value.now) c.in-Some.i c.in-Some.ensures in
+    let v = c.args.value.now in
+    let after = stored ss n (length v) c.in_ok-at.at (sym c.in_ok-at.ensures.ok_part ∙ c.slot_for.ensures) v _ c.fill.ensures in
     record {
       sixteen = length-set ss _ _ ∙ c.args.self.now.sixteen;
-      lawful = sound-set ss c.in-Some.i _ c.args.self.now.lawful c.fill.ensures.sound;
-      once = ap (λ (ps : Places). distinct (names ps)) (stored ss n c.args.value.now c.in-Some.i _ at c.fill.ensures.place) ∙ once-put (places_of ss) n c.args.value.now c.args.self.now.once;
+      lawful = ap (list_all lawful_place) after ∙ lawful-put (places_of ss) n v c.args.self.now.lawful (and_from _ _ (sym c.if-not-is_name.ensures) (sym c.if-not-is_lawful.ensures));
+      once = ap (λ (ps : Places). distinct (names ps)) after ∙ once-put (places_of ss) n v c.args.self.now.once;
     }
 
-pub returns-in-Some : goal.returns-in-Some
-returns-in-Some c =
+pub returns-clause-after : goal.returns-clause-after
+returns-clause-after c =
     let ss = c.args.self.now.slots in
     let n = c.args.name.now in
-    let room = slot_room ss n (length c.args.value.now) c.in-Some.i c.in-Some.ensures in
-    let at = slot_place ss n (length c.args.value.now) c.in-Some.i c.in-Some.ensures in
-    record {
-      answer = taken-answer _ _ _ c.if-not-is_name.ensures c.if-not-is_lawful.ensures room;
-      after = taken-after _ _ _ _ _ _ c.if-not-is_name.ensures c.if-not-is_lawful.ensures room (stored ss n c.args.value.now c.in-Some.i _ at c.fill.ensures.place);
-    }
+    let v = c.args.value.now in
+    let known = sym c.in_ok-at.ensures.ok_part ∙ c.slot_for.ensures in
+    taken _ _ _ _ c.if-not-is_name.ensures c.if-not-is_lawful.ensures (slot_room ss n (length v) c.in_ok-at.at known) (stored ss n (length v) c.in_ok-at.at known v _ c.fill.ensures)

@@ -1,21 +1,17 @@
-use Rattle.std.proofs.Common.{◌≡◌, min, length, refl, ap, ◌∙◌, arith}
-use Rattle.std.proofs.lemmas.List.{length-take}
-use Rattle.text.specs.Texts.{lawful}
-use Rattle.store.specs.Contents.{empty, sound}
+use Rattle.std.proofs.Common.{◌∙◌, arith}
+use Rattle.store.proofs.Holding.{empty_lies, kept}
+use Rattle.store.proofs.Laying.{lies_back}
+use Rattle.store.proofs.Sounds.{sound_empty}
+use Rattle.store.specs.Contents.{empty}
 use Rattle.store.specs.Stores.{held}
-use Rattle.store.specs.Tags.{ascends, all_lawful}
 use Rattle.store.proofs.memory.Store.new.Goals as goal
 
 pub invariant_of-result : goal.invariant_of-result
-unfolding sound ascends all_lawful lawful
 invariant_of-result c =
-    let spans = ap length c.truncate.ensures.items ∙ length-take 256 c.args.spans.items in
-    let text = ap length c.truncate-2.ensures.items ∙ length-take 65536 c.args.text.items in
-    record { small = (omega (arith, spans), omega (arith, text)); laid = (omega arith, omega arith, refl); good = refl }
+    kept c.new.result c.new-2.result (empty_lies c.new.result c.new-2.result c.new.ensures.items c.new-2.ensures.items) (sound_empty _ _)
+    (omega (arith, c.new.ensures.room), omega (arith, c.new-2.ensures.room))
 
 pub returns : goal.returns
 unfolding held
 returns c =
-    let spans : length c.truncate.new.self.items ≡ min c.args.spans.len 256 = ap length c.truncate.ensures.items ∙ length-take 256 c.args.spans.items ∙ omega (arith, c.args.spans.ok.0) in
-    let text : length c.truncate-2.new.self.items ≡ min c.args.text.len 65536 = ap length c.truncate-2.ensures.items ∙ length-take 65536 c.args.text.items ∙ omega (arith, c.args.text.ok.0) in
-    λ i. empty (spans i) (text i)
+    lies_back (empty_lies c.new.result c.new-2.result c.new.ensures.items c.new-2.ensures.items) ∙ (λ i. empty (c.new.ensures.room i) (c.new-2.ensures.room i))

@@ -1,53 +1,56 @@
-use Rattle.std.proofs.Common.{[], vec_items, unwrap_or, sym, ap, ◌∙◌, arith}
+use Rattle.std.proofs.Common.{[], unwrap_or, length, ◌∙◌, arith}
+use Rattle.std.proofs.lemmas.Result.{err_from_is_err_and}
 use Rattle.std.specs.Option.{option_map}
 use Rattle.text.specs.Texts.{lawful}
-use Rattle.store.specs.Contents.{ot_answer, after_ot}
+use Rattle.store.specs.Contents.{with_ot, ot_answer, after_ot}
+use Rattle.store.specs.Layout.{contents}
 use Rattle.store.specs.Stores.{held}
-use Rattle.store.proofs.Answering.{accepted, refused_full, refused_unlawful}
-use Rattle.store.proofs.Heading.{ot_next, ot-fits, ot-long, ot_lies}
-use Rattle.store.proofs.Holding.{held-sound, kept, same_length}
+use Rattle.store.specs.Uses.{in_use, room}
+use Rattle.store.proofs.Answering.{refused_part, accepted_part}
+use Rattle.store.proofs.Heading.{ot-fits, ot_lies}
+use Rattle.store.proofs.Holding.{bounds, held-sound, kept}
 use Rattle.store.proofs.Laying.{lies_back}
 use Rattle.store.proofs.Sounds.{sound-ot}
 use Rattle.store.proofs.memory.Store.set_ot.Goals as goal
 
-pub returns-then-not-is_lawful : goal.returns-then-not-is_lawful
-unfolding ot_answer after_ot
-returns-then-not-is_lawful c =
+pub returns-in_err-self-clause-answer : goal.returns-in_err-self-clause-answer
+unfolding ot_answer
+returns-in_err-self-clause-answer c =
     let s = c.args.self.now in
     let o = option_map (λ x. x.now) c.args.ot in
-    let out = refused_unlawful (lawful (unwrap_or o [])) (ot_next s o c.bytes_of-new.result.now c.bytes_of-new.ensures) (held s) (ap lawful (sym c.bytes_of-new.ensures) ∙ sym c.if-not-is_lawful.ensures) in
-    record { answer = out.answers; after = out.leaves }
+    let out = refused_part (lawful (unwrap_or o [])) _ (with_ot (held s) o) (held s) (ot-fits s o _ c.unwrap_or-at.ensures) (option_map length o) c.set_part.result c.set_part.ensures.answer _ _ _ c.set_part.ensures.items _ c.in_err-self.was in
+    let p = err_from_is_err_and c.from_residual.result c.from_residual.ensures.1 in
+    rw (p.1, p.2) out.0.answers
 
-pub returns-then-new-len : goal.returns-then-new-len
-unfolding ot_answer after_ot
-returns-then-new-len c =
+pub returns-in_err-self-clause-after : goal.returns-in_err-self-clause-after
+unfolding held after_ot
+returns-in_err-self-clause-after c =
     let s = c.args.self.now in
     let o = option_map (λ x. x.now) c.args.ot in
-    let out = refused_full (lawful (unwrap_or o [])) (ot_next s o c.bytes_of-new.result.now c.bytes_of-new.ensures) (held s) (ap lawful (sym c.bytes_of-new.ensures) ∙ sym c.if-not-is_lawful.ensures)
-    (ot-long s o _ c.bytes_of-new.ensures _ _ c.unwrap_or-at.ensures c.unwrap_or-old.ensures (omega (arith, s.text.ok.0))) in
-    record { answer = out.answers; after = out.leaves }
+    let out = refused_part (lawful (unwrap_or o [])) _ (with_ot (held s) o) (held s) (ot-fits s o _ c.unwrap_or-at.ensures) (option_map length o) c.set_part.result c.set_part.ensures.answer _ _ _ c.set_part.ensures.items _ c.in_err-self.was in
+    (λ i. contents (in_use s.spans) (out.1 i) (room s.spans) (c.set_part.ensures.room i) s.origin s.ot) ∙ out.0.leaves
 
-pub invariant_of-self : goal.invariant_of-self
-invariant_of-self c =
+pub invariant_of-self-2 : goal.invariant_of-self-2
+invariant_of-self-2 c =
     let s = c.args.self.now in
     let o = option_map (λ x. x.now) c.args.ot in
-    let text = same_length s.text c.replace.new.v c.replace.ensures.len in
-    kept
-    (ot_lies s o _ c.bytes_of-new.ensures _ _ c.unwrap_or-at.ensures c.unwrap_or-old.ensures (vec_items c.replace.new.v) c.len_of-self.result text c.len_of-self.ensures c.replace.ensures.items)
-    (sound-ot (held s) (held-sound s) o (ap lawful (sym c.bytes_of-new.ensures) ∙ sym c.if-not-is_lawful.ensures))
-    (s.small.0, omega (arith, s.small.1)) s.laid.0 (omega (arith, s.laid.1, s.text.ok.0))
+    let b = bounds s in
+    let out = accepted_part (lawful (unwrap_or o [])) _ (with_ot (held s) o) (held s) (ot-fits s o _ c.unwrap_or-at.ensures) (option_map length o) c.set_part.result c.set_part.ensures.answer _ _ _ c.set_part.ensures.items _ c.in_ok-self.was in
+    kept s.spans c.set_part.new.text (ot_lies s o _ c.unwrap_or-at.ensures (in_use c.set_part.new.text) c.in_ok-self.field-0 (room c.set_part.new.text) c.set_part.ensures.room out.2 out.1) (sound-ot (held s) (held-sound s) o out.3)
+    (s.small.0, omega (arith, c.set_part.ensures.room))
 
-pub returns : goal.returns
-unfolding held ot_answer after_ot
-returns c =
+pub returns-clause-answer : goal.returns-clause-answer
+unfolding ot_answer
+returns-clause-answer c =
     let s = c.args.self.now in
     let o = option_map (λ x. x.now) c.args.ot in
-    let text = same_length s.text c.replace.new.v c.replace.ensures.len in
-    let out = accepted (lawful (unwrap_or o [])) (ot_next s o c.bytes_of-new.result.now c.bytes_of-new.ensures) (held s) (ap lawful (sym c.bytes_of-new.ensures) ∙ sym c.if-not-is_lawful.ensures)
-    (ot-fits s o _ c.bytes_of-new.ensures _ _ c.unwrap_or-at.ensures c.unwrap_or-old.ensures (omega (arith, s.text.ok.0, s.laid.1))) in
-    record {
-      answer = out.answers;
-      after = lies_back
-          (ot_lies s o _ c.bytes_of-new.ensures _ _ c.unwrap_or-at.ensures c.unwrap_or-old.ensures (vec_items c.replace.new.v) c.len_of-self.result text c.len_of-self.ensures c.replace.ensures.items)
-          ∙ out.leaves;
-    }
+    let out = accepted_part (lawful (unwrap_or o [])) _ (with_ot (held s) o) (held s) (ot-fits s o _ c.unwrap_or-at.ensures) (option_map length o) c.set_part.result c.set_part.ensures.answer _ _ _ c.set_part.ensures.items _ c.in_ok-self.was in
+    out.0.answers
+
+pub returns-clause-after : goal.returns-clause-after
+unfolding held after_ot
+returns-clause-after c =
+    let s = c.args.self.now in
+    let o = option_map (λ x. x.now) c.args.ot in
+    let out = accepted_part (lawful (unwrap_or o [])) _ (with_ot (held s) o) (held s) (ot-fits s o _ c.unwrap_or-at.ensures) (option_map length o) c.set_part.result c.set_part.ensures.answer _ _ _ c.set_part.ensures.items _ c.in_ok-self.was in
+    lies_back (ot_lies s o _ c.unwrap_or-at.ensures (in_use c.set_part.new.text) c.in_ok-self.field-0 (room c.set_part.new.text) c.set_part.ensures.room out.2 out.1) ∙ out.0.leaves
