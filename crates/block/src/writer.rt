@@ -133,7 +133,7 @@ impl<'m> Injector for LineBlock<'m> {
     }
 
     fn set(&mut self, name: &[u8], value: &[u8]) -> Result<(), SetFault> {
-        // This test opens every carrier's set: a function for it would be a line shorter.
+        // Every carrier's set begins so; what follows differs.
         if !is_name(name) || !is_lawful(value) {
             return Err(SetFault::Unlawful);
         }

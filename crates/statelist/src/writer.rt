@@ -15,7 +15,8 @@ pub(crate) struct ListWriter<'w> {
     ghost within: { len ≤ length work.now },
 }
 
-// After `None` the work bytes are too few for the list, and what they hold is free.
+// After `None` the work bytes are too few for the list, and what they hold is free. That they are the same loan stands in each contract
+// (`same`): it is said of two states, and no invariant can say it.
 impl<'w> ListWriter<'w> {
     ghost use Rattle.std.specs.Prelude.{◌++◌, take};
     ghost use Rattle.statelist.specs.Choosing.{given, listed};

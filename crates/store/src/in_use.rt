@@ -9,6 +9,7 @@ pub(crate) struct InUse<T> {
     ghost within: { used ≤ vec_len memory },
 }
 
+// That the room stays is said of two states, so it stands in contracts, and no invariant can say it.
 impl<T: Copy> InUse<T> {
     ghost use Rattle.store.specs.Uses.{has_room, in_use, replaced, room};
 
