@@ -34,6 +34,7 @@ impl<'m> Carrier for LineReader<'m> {
     ghost held = { λ s. read_by s };
 }
 
+// The writing side has the same three lines over its front: a trait that both shared would have more.
 impl<'m> Extractor for LineReader<'m> {
     ghost order = { λ s. names (read_by s).lines };
 

@@ -26,6 +26,7 @@ fn is_opened(memory: &[u8], len: usize) -> bool
 }
 
 // Reads and writes headers in the block at the front of a memory. The memory is lent, so how much of it is the block stands beside it.
+// No ghost field bounds that: the checker covers no `Result` of a layer whose type holds one beside a lent memory.
 #[derive(Drop)]
 pub struct LineBlock<'m> {
     memory: &'m mut [u8],

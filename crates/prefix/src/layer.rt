@@ -77,6 +77,7 @@ impl<C: Injector> Injector for Prefixed<C> {
 
     // A lawful name and value can only be refused for want of room, below too.
     fn set(&mut self, name: &[u8], value: &[u8]) -> Result<(), SetFault> {
+        // Every carrier's set begins so; what follows differs.
         if !is_name(name) || !is_lawful(value) {
             return Err(SetFault::Unlawful);
         }

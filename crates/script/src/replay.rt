@@ -135,6 +135,7 @@ impl Replay {
         Ok(())
     }
 
+    // A method, since an answer is std's `Result` and can have no `Display` of ours.
     fn show_answer(&mut self, answer: Result<(), Refused>) -> Result<(), AllocError> {
         match answer {
             Ok(()) => writeln!(self.out, "   accepted"),

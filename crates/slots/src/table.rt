@@ -93,6 +93,7 @@ impl Injector for SlotTable {
     }
 
     fn set(&mut self, name: &[u8], value: &[u8]) -> Result<(), SetFault> {
+        // Every carrier's set begins so; what follows differs.
         if !is_name(name) || !is_lawful(value) {
             return Err(SetFault::Unlawful);
         }

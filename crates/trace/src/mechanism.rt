@@ -27,6 +27,7 @@ impl SamplingMechanism {
         read_mechanism(s).map(|value| SamplingMechanism { value })
     }
 
+    // No `Display`, as for a priority's text.
     pub fn text(self) -> Decimal
         ensures { text_of result ≡ mechanism_text (maker self) }
     {

@@ -12,7 +12,8 @@ use crate::in_use::InUse;
 use crate::memory::{MAX_BYTES, MAX_TAGS, Span, Store};
 use text::check::is_lawful;
 
-// Sets a part of the text at a place, or drops it, and says how long it is then: none if it was dropped. A refusal alters nothing.
+// Sets a part of the text at a place, or drops it, and says how long it is then: none if it was dropped, which is no refusal. A
+// refusal alters nothing. That the room stays is said of two states, and no invariant can say it.
 fn set_part(
     text: &mut InUse<u8>,
     at: usize,
