@@ -17,9 +17,9 @@ fn numbers_of_64_bits(rt: HostRuntime) {
     assert_eq!(rt; read_u64(b"+007"), Some(7));
     assert_eq!(rt; read_u64(b"-0"), None);
     assert_eq!(rt; read_u64(b"1 "), None);
-    assert_eq!(rt; decimal_text(0u64).as_slice(), b"0".as_slice());
+    assert_eq!(rt; decimal_u64(0).text(), b"0".as_slice());
     assert_eq!(rt;
-        decimal_text(18446744073709551615u64).as_slice(),
+        decimal_u64(18446744073709551615).text(),
         b"18446744073709551615".as_slice()
     );
 }
@@ -33,15 +33,15 @@ fn small_numbers(rt: HostRuntime) {
     assert_eq!(rt; read_i8(b"-0"), Some(0));
     assert_eq!(rt; read_i8(b"+-1"), None);
     assert_eq!(rt; read_i8(b"-"), None);
-    assert_eq!(rt; decimal_text(-128i8).as_slice(), b"-128".as_slice());
-    assert_eq!(rt; decimal_text(127i8).as_slice(), b"127".as_slice());
+    assert_eq!(rt; decimal_i8(-128).text(), b"-128".as_slice());
+    assert_eq!(rt; decimal_i8(127).text(), b"127".as_slice());
 }
 
 // Every small number is written and read back.
 #[test]
 fn small_numbers_there_and_back(rt: HostRuntime) {
     for n in -128..=127i8 {
-        assert_eq!(rt; read_i8(decimal_text(n).as_slice()), Some(n));
+        assert_eq!(rt; read_i8(decimal_i8(n).text()), Some(n));
     }
 }
 
@@ -54,9 +54,9 @@ fn mechanisms(rt: HostRuntime) {
     assert_eq!(rt; read_mechanism(b"3"), None);
     assert_eq!(rt; read_mechanism(b"-+3"), None);
     assert_eq!(rt; read_mechanism(b"-"), None);
-    assert_eq!(rt; mechanism_text(0).as_slice(), b"-0".as_slice());
+    assert_eq!(rt; mechanism_text(0).text(), b"-0".as_slice());
     assert_eq!(rt;
-        SamplingMechanism { value: 4 }.text().as_slice(),
+        SamplingMechanism { value: 4 }.text().text(),
         b"-4".as_slice()
     );
 }
@@ -103,7 +103,7 @@ fn priorities(rt: HostRuntime) {
     assert!(rt; !is_kept(SamplingPriority::from_text(b"0")));
     assert!(rt; is_kept(SamplingPriority::from_text(b"1")));
     assert_eq!(rt;
-        SamplingPriority { value: -1 }.text().as_slice(),
+        SamplingPriority { value: -1 }.text().text(),
         b"-1".as_slice()
     );
 }

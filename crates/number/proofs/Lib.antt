@@ -5,7 +5,7 @@ pub mod HexText
 mod HexWriting
 pub mod LawfulText
 mod Numerals
-pub mod Parsing
+mod Reading
 pub mod OnlyText
 pub mod Ranges
 pub mod ReadBack

@@ -1,8 +1,10 @@
 -- Numbers as text: what a text reads as, and how a number is written. Assumes nothing.
 use Rattle.std.specs.Prelude.{ℕ, zero, suc, ◌+◌, ◌-◌, ◌*◌, ◌/◌, ◌%◌, ◌^◌, Bool, cond, ◌&&◌, List, [], ◌∷◌, ◌++◌, length, drop, ℤ, pos, negsuc, neg_ℤ, Some, None, codes, decimal, Option, ◌==◌, nat_le, nat_lt, slice_index}
 use Rattle.std.specs.Option.{option_map}
-use Rattle.byte_classes.specs.Sets.{digit, hex, any_hex}
 use Rattle.std.specs.List.{list_all}
+use Rattle.byte_classes.specs.Sets.{digit, hex, any_hex}
+use Rattle.text.specs.Inlines.{text_of}
+use Rattle.number.specs.declared.write.Decimal.{Decimal}
 
 -- the value of a hexadecimal digit in either case, and 0 at any other byte
 unfoldable pub digit_value : ℕ → ℕ
@@ -75,3 +77,7 @@ glyph d = cond (nat_lt d 10) (0x30 + d) (0x61 + (d - 10))
 unfoldable pub hex_text : ℕ → ℕ → List ℕ
 hex_text zero n = []
 hex_text (suc width) n = hex_text width (n / 16) ++ (glyph (n % 16) ∷ [])
+
+-- the text that a `Decimal` holds
+abbrev pub decimal_bytes : Decimal → List ℕ
+decimal_bytes d = text_of d.text

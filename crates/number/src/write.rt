@@ -2,5 +2,12 @@
 mod decimals;
 mod hexes;
 
-pub use self::decimals::{Decimal, decimal_text, mechanism_text};
+pub use self::decimals::{decimal_i8, decimal_u64, mechanism_text};
 pub use self::hexes::{fill_hex, hex_text};
+use text::inline::Inline;
+
+// A decimal text, as only the writers make one: no number of 64 bits has more than 20 digits.
+#[derive(Clone, Copy)]
+pub struct Decimal {
+    text: Inline<20>,
+}

@@ -1,8 +1,7 @@
 // The sampling mechanism.
 ghost use Rattle.std.specs.Prelude.{◌≡◌};
 ghost use Rattle.std.specs.Option.{option_map};
-ghost use Rattle.number.specs.Numbers.{mechanism, mechanism_text};
-ghost use Rattle.text.specs.Inlines.{text_of};
+ghost use Rattle.number.specs.Numbers.{decimal_bytes, mechanism, mechanism_text};
 ghost use Rattle.trace.specs.Traces.{maker};
 
 use number::read::read_mechanism;
@@ -29,7 +28,7 @@ impl SamplingMechanism {
 
     // No `Display`, as for a priority's text.
     pub fn text(self) -> Decimal
-        ensures { text_of result ≡ mechanism_text (maker self) }
+        ensures { decimal_bytes result ≡ mechanism_text (maker self) }
     {
         mechanism_text(self.value)
     }

@@ -1,12 +1,11 @@
 // The sampling priority.
 ghost use Rattle.std.specs.Prelude.{◌≡◌};
 ghost use Rattle.std.specs.Option.{option_map};
-ghost use Rattle.number.specs.Numbers.{small, small_text};
-ghost use Rattle.text.specs.Inlines.{text_of};
+ghost use Rattle.number.specs.Numbers.{decimal_bytes, small, small_text};
 ghost use Rattle.trace.specs.Traces.{keeps, keeps_if, level};
 
 use number::read::read_i8;
-use number::write::{Decimal, decimal_text};
+use number::write::{Decimal, decimal_i8};
 
 // How much a trace is wanted.
 #[derive(Clone, Copy, PartialEq, Eq, Debug)]
@@ -37,9 +36,9 @@ impl SamplingPriority {
 
     // No `Display`, which can fail where its writer does; this text cannot.
     pub fn text(self) -> Decimal
-        ensures { text_of result ≡ small_text (level self) }
+        ensures { decimal_bytes result ≡ small_text (level self) }
     {
-        decimal_text(self.value)
+        decimal_i8(self.value)
     }
 }
 

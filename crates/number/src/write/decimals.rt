@@ -1,30 +1,47 @@
 // Decimal text.
-ghost use Rattle.std.specs.Prelude.{◌≡◌};
-ghost use Rattle.number.specs.Numbers.{mechanism_text};
-ghost use Rattle.text.specs.Inlines.{text_of};
+ghost use Rattle.std.specs.Prelude.{◌≡◌, ◌+◌, ◌≤◌, ◌++◌, length};
+ghost use Rattle.number.specs.Numbers.{decimal_bytes, decimal_text, mechanism_text, small_text};
 
+use super::Decimal;
 use itoa::{Buffer, Integer};
 use text::inline::Inline;
 
-// No number's text is longer.
-pub type Decimal = Inline<40>;
+impl Decimal {
+    pub fn text(&self) -> &[u8]
+        ensures is { result.now ≡ decimal_bytes self.now }
+        ensures short { length result.now ≤ 20 }
+    {
+        self.text.as_slice()
+    }
+}
 
-// The digits of a number, after a minus where it is negative. Not by `write!`, whose contract lets any writer fail.
-pub fn decimal_text<I: Integer>(n: I) -> Decimal
-    ensures { text_of result ≡ I.text n }
+// The digits of a number, with a minus where it is negative, after what leads them in. Not by `write!`, whose contract lets any writer
+// fail.
+fn printed<I: Integer>(lead: &[u8], n: I) -> Decimal
+    requires { length lead.now + I.MAX_STR_LEN ≤ 20 }
+    ensures { decimal_bytes result ≡ lead.now ++ I.text n }
 {
     let mut text = Inline::new();
+    text.push(lead).unwrap();
     text.push(Buffer::new().format(n).as_bytes()).unwrap();
-    text
+    Decimal { text }
+}
+
+pub fn decimal_u64(n: u64) -> Decimal
+    ensures { decimal_bytes result ≡ decimal_text n }
+{
+    printed::<u64>(b"", n)
+}
+
+pub fn decimal_i8(n: i8) -> Decimal
+    ensures { decimal_bytes result ≡ small_text n }
+{
+    printed::<i8>(b"", n)
 }
 
 // A minus, which is no sign, then the digits.
-#[tactic(auto, unfolding(crate::specs::Numbers::mechanism_text, crate::specs::Numbers::decimal_text))]
 pub fn mechanism_text(m: u8) -> Decimal
-    ensures { text_of result ≡ mechanism_text m }
+    ensures { decimal_bytes result ≡ mechanism_text m }
 {
-    let mut text = Inline::new();
-    text.push(b"-").unwrap();
-    text.push(Buffer::new().format(m).as_bytes()).unwrap();
-    text
+    printed::<u8>(b"-", m)
 }
