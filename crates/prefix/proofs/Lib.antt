@@ -1,3 +1,4 @@
 mod Listing
 mod Others
+mod Picking
 mod Piling

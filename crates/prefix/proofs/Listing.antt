@@ -1,5 +1,5 @@
 -- The names of a layer. Assumes nothing.
-use Rattle.std.proofs.Common.{◌≡◌, ℕ, zero, suc, ◌+◌, ◌<◌, ◌≤◌, Bool, true, false, cond, not, ◌&&◌, ◌||◌, ltb, leb, List, [], ◌∷◌, ◌++◌, length, drop, filter, is_some, Some, None, Decides, Option, sym, refl, ap, ◌∙◌, arith, length-append, length-drop}
+use Rattle.std.proofs.Common.{◌≡◌, ℕ, ◌+◌, ◌<◌, ◌≤◌, Bool, true, false, cond, not, ◌&&◌, ◌||◌, ltb, leb, List, [], ◌∷◌, ◌++◌, length, drop, is_some, Some, None, Decides, Option, sym, refl, ap, ◌∙◌, arith, length-append, length-drop}
 use Rattle.std.proofs.lemmas.Slice.Eq.{bytes_eq-Decides}
 use Rattle.std.proofs.lemmas.Bool.{and_parts, and_from, and_right, leb-true, le-leb, both_ways, not-true, not_from_false}
 use Rattle.std.proofs.lemmas.Bool.Decides.{same_from_decides, Decides-like, Decides-and, Decides-ltb}
@@ -7,7 +7,7 @@ use Rattle.std.proofs.lemmas.List.{drop_more}
 use Rattle.std.proofs.lemmas.List.Folds.{list_all-append}
 use Rattle.std.proofs.lemmas.Option.{slice_get-get_or}
 use Rattle.std.specs.Option.{option_and_then}
-use Rattle.std.specs.List.{cons_option, slice_get, range_with_len, list_all}
+use Rattle.std.specs.List.{cons_option, filter_map, slice_get, range_with_len, list_all}
 use Rattle.std.specs.Str.{bytes_eq}
 use Rattle.byte_classes.specs.Sets.{name}
 use Rattle.text.proofs.Prefixes.{strip_is, strip_only}
@@ -108,13 +108,10 @@ module _ (K : Kind) (h : K.Held) (p : List ℕ) (ks : List (List ℕ)) (below : 
     once = once_after p ks below.once;
   }
 
--- the names stand at the places below that have one; d of the names below, xs, stand before ks
+-- the names of the layer, one for each place below that has one; d of the names below, xs, stand before ks
 module _ (p : List ℕ) (xs : List (List ℕ)) where
   abbrev pub here : ℕ → Option (List ℕ)
   here i = option_and_then (name_after p) (slice_get xs i)
-
-  abbrev pub has_name : ℕ → Bool
-  has_name i = is_some (here i)
 
   by_length : (d : ℕ) (k : List ℕ) (ks : List (List ℕ)) → drop d xs ≡ k ∷ ks → d < length xs
   by_length d k ks e = omega (arith, ap length e, length-drop d xs)
@@ -125,31 +122,12 @@ module _ (p : List ℕ) (xs : List (List ℕ)) where
       let next = drop_more xs d k more in
       (slice_get-get_or xs d k more ∙ ap (λ (n : List ℕ). Some n) cc, cc)
 
-  count_from : (d : ℕ) (ks : List (List ℕ)) → drop d xs ≡ ks → length (filter has_name (range_with_len d (length ks))) ≡ length (names_after p ks)
-  count_from d [] e = refl
-  count_from d (k ∷ ks) e =
+  listed_from : (d : ℕ) (ks : List (List ℕ)) → drop d xs ≡ ks → filter_map here (range_with_len d (length ks)) ≡ names_after p ks
+  listed_from d [] e = refl
+  listed_from d (k ∷ ks) e =
       let a = ahead d k ks e in
-      by (name_after p k) refl (ap (option_and_then (name_after p)) a.0) (count_from (d + 1) ks a.1)
-    where
-      by : (o : Option (List ℕ)) → name_after p k ≡ o → here d ≡ name_after p k → length (filter has_name (range_with_len (d + 1) (length ks))) ≡ length (names_after p ks)
-          → length (cond (is_some (here d)) (d ∷ filter has_name (range_with_len (d + 1) (length ks))) (filter has_name (range_with_len (d + 1) (length ks)))) ≡ length (cons_option (name_after p k) (names_after p ks))
-      by None f h ih = rw (h, f) ih
-      by (Some n) f h ih = rw (h, f) (ap suc ih)
+      ap (λ (o : Option (List ℕ)). cons_option o (filter_map here (range_with_len (d + 1) (length ks)))) (ap (option_and_then (name_after p)) a.0)
+      ∙ ap (cons_option (name_after p k)) (listed_from (d + 1) ks a.1)
 
-  at_from : (d : ℕ) (ks : List (List ℕ)) (at : ℕ) → drop d xs ≡ ks → option_and_then here (slice_get (filter has_name (range_with_len d (length ks))) at) ≡ slice_get (names_after p ks) at
-  at_from d [] at e = refl
-  at_from d (k ∷ ks) at e =
-      let a = ahead d k ks e in
-      by (name_after p k) refl (ap (option_and_then (name_after p)) a.0) at (λ j. at_from (d + 1) ks j a.1)
-    where
-      by : (o : Option (List ℕ)) → name_after p k ≡ o → here d ≡ name_after p k → (j : ℕ) → ((i : ℕ) → option_and_then here (slice_get (filter has_name (range_with_len (d + 1) (length ks))) i) ≡ slice_get (names_after p ks) i)
-          → option_and_then here (slice_get (cond (is_some (here d)) (d ∷ filter has_name (range_with_len (d + 1) (length ks))) (filter has_name (range_with_len (d + 1) (length ks)))) j) ≡ slice_get (cons_option (name_after p k) (names_after p ks)) j
-      by None f h j ih = rw (h, f) (ih j)
-      by (Some n) f h zero ih = rw (h, f) (h ∙ f)
-      by (Some n) f h (suc j) ih = rw (h, f) (ih j)
-
-  pub name_count : length (filter has_name (range_with_len 0 (length xs))) ≡ length (names_after p xs)
-  name_count = count_from 0 xs refl
-
-  pub name_at : (at : ℕ) → option_and_then here (slice_get (filter has_name (range_with_len 0 (length xs))) at) ≡ slice_get (names_after p xs) at
-  name_at at = at_from 0 xs at refl
+  pub names_below : filter_map here (range_with_len 0 (length xs)) ≡ names_after p xs
+  names_below = listed_from 0 xs refl

@@ -55,16 +55,15 @@ impl<C: Extractor> Extractor for Prefixed<C> {
 
     fn key_count(&self) -> usize {
         (0..self.below.key_count())
-            .filter(|at| self.key_below(*at).is_some())
+            .filter_map(|at| self.key_below(at))
             .count()
     }
 
     // The chain begins as that of `key_count`: its type holds a closure, so no function can answer it.
     fn key_at(&self, at: usize) -> Option<&[u8]> {
         (0..self.below.key_count())
-            .filter(|at| self.key_below(*at).is_some())
+            .filter_map(|at| self.key_below(at))
             .nth(at)
-            .and_then(|at| self.key_below(at))
     }
 }
 

@@ -49,11 +49,12 @@ impl Prefix {
     pub fn new(bytes: &[u8]) -> Result<Prefix, UnlawfulPrefix>
         ensures { made result ≡ prefix_answer bytes.now }
     {
+        let mut text = Inline::new();
+        // First, so that a long text is refused by its length and not read.
+        text.push(bytes)?;
         if bytes.is_empty() || !all_in::<Name>(bytes) {
             return Err(UnlawfulPrefix);
         }
-        let mut text = Inline::new();
-        text.push(bytes)?;
         Ok(Prefix { text })
     }
 

@@ -5,11 +5,11 @@ use Rattle.std.proofs.lemmas.Bool.{and_parts, cond-true}
 use Rattle.std.specs.List.{slice_get, list_all}
 use Rattle.std.specs.Option.{option_map, option_and_then}
 use Rattle.std.specs.Str.{bytes_eq}
+use Rattle.text.specs.declared.inline.Inline.{Inline}
 use Rattle.carrier.specs.Names.{member, distinct, Lists}
 use Rattle.carrier.specs.Steps.{may}
 use Rattle.slots.specs.Places.{Entry, lawful_place, Places, named, free, first, shown_by, shown, names}
 use Rattle.slots.specs.Slots.{place_of, places_of}
-use Rattle.slots.specs.declared.slot.Held.{Held}
 use Rattle.slots.specs.declared.slot.Slot.{Slot}
 
 listed : (ps : Places) (n : List ℕ) → list_all lawful_place ps ≡ true → member n (names ps) ≡ is_some (shown ps n)
@@ -33,18 +33,18 @@ name_in s = option_map (λ (e : Entry). e.name) (place_of s)
 
 -- one slot more, free or not
 module _ (s : Slot) (ss : List Slot) where
-  names_more : (h : Option Held) → s.held ≡ h → length (filter used ss) ≡ length (names (places_of ss)) → length (filter used (s ∷ ss)) ≡ length (names (places_of (s ∷ ss)))
+  names_more : (o : Option (Inline 64)) → s.name ≡ o → length (filter used ss) ≡ length (names (places_of ss)) → length (filter used (s ∷ ss)) ≡ length (names (places_of (s ∷ ss)))
   names_more None e ih = rw e ih
-  names_more (Some h) e ih = rw e (ap suc ih)
+  names_more (Some n) e ih = rw e (ap suc ih)
 
 pub name_count : (ss : List Slot) → length (filter used ss) ≡ length (names (places_of ss))
 name_count [] = refl
-name_count (s ∷ ss) = names_more s ss s.held refl (name_count ss)
+name_count (s ∷ ss) = names_more s ss s.name refl (name_count ss)
 
 pub name_at : (ss : List Slot) (at : ℕ) → option_and_then name_in (slice_get (filter used ss) at) ≡ slice_get (names (places_of ss)) at
 name_at [] at = refl
-name_at (s ∷ ss) at = by s.held refl at (name_at ss) where
-  by : (h : Option Held) → s.held ≡ h → (k : ℕ) → ((j : ℕ) → option_and_then name_in (slice_get (filter used ss) j) ≡ slice_get (names (places_of ss)) j) → option_and_then name_in (slice_get (filter used (s ∷ ss)) k) ≡ slice_get (names (places_of (s ∷ ss))) k
+name_at (s ∷ ss) at = by s.name refl at (name_at ss) where
+  by : (o : Option (Inline 64)) → s.name ≡ o → (k : ℕ) → ((j : ℕ) → option_and_then name_in (slice_get (filter used ss) j) ≡ slice_get (names (places_of ss)) j) → option_and_then name_in (slice_get (filter used (s ∷ ss)) k) ≡ slice_get (names (places_of (s ∷ ss))) k
   by None e k ih = rw e (ih k)
-  by (Some h) e zero ih = rw e refl
-  by (Some h) e (suc k) ih = rw e (ih k)
+  by (Some n) e zero ih = rw e refl
+  by (Some n) e (suc k) ih = rw e (ih k)

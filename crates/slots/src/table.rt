@@ -30,7 +30,7 @@ impl SlotTable {
         ensures { places_of result.slots ≡ replicate 16 None }
     {
         SlotTable {
-            slots: [Slot::FREE; SLOTS],
+            slots: [Slot::new(); SLOTS],
         }
     }
 

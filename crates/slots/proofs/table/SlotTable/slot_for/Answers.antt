@@ -8,5 +8,6 @@ use Rattle.slots.proofs.table.SlotTable.slot_for.Goals as goal
 pub returns : goal.returns
 returns c =
     let ps = places_of c.args.self.now.slots in
-    let e : c.or_else.result ≡ option_or (position (named c.args.name.now) ps) (position free ps) = search (rules, tests) in
-    e ∙ placed ps c.args.name.now c.args.len (sym c.if-not-is_name.ensures) (omega arith)
+    let either : c.or_else.result ≡ option_or (position (named c.args.name.now) ps) (position free ps) = search (rules, tests) in
+    let found = either ∙ placed ps c.args.name.now c.args.len (sym c.if-not-is_name.ensures) (omega arith) in
+    search (rules, tests)
