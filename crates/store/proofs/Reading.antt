@@ -1,17 +1,19 @@
 -- What is read of the memory is what it holds. Assumes nothing.
-use Rattle.std.proofs.Common.{◌≡◌, ℕ, ◌+◌, ◌-◌, ◌≤◌, List, [], ◌∷◌, ◌++◌, length, take, drop, Some, None, Option, unwrap_or, sym, refl, ap, ◌∙◌, arith}
-use Rattle.std.proofs.lemmas.List.{append_assoc, append-nil, length-append, length-drop}
+use Rattle.std.proofs.Common.{◌≡◌, ℕ, zero, suc, ◌+◌, ◌-◌, ◌<◌, ◌≤◌, List, [], ◌∷◌, ◌++◌, length, get_or, take, drop, Some, None, Option, unwrap_or, sym, refl, ap, ◌∙◌, zero-add, arith}
+use Rattle.std.proofs.lemmas.List.{append_assoc, append-nil, drop_more, drop-drop, length-append, length-drop, take-append-drop}
+use Rattle.std.proofs.lemmas.Option.{slice_get_past, slice_get_read}
 use Rattle.std.specs.Option.{option_map}
+use Rattle.std.specs.List.{slice_get}
 use Rattle.store.specs.declared.memory.Span.{Span}
 use Rattle.store.specs.declared.memory.Store.{Store}
 use Rattle.store.specs.declared.memory.seek.Place.{Place}
-use Rattle.store.specs.Layout.{span, total, tags_in}
+use Rattle.store.specs.Layout.{span, total, tags_in, body}
 use Rattle.store.specs.Spots.{Spot, tag_of, own_bytes}
 use Rattle.store.specs.Stores.{held, head_of}
-use Rattle.store.specs.Tags.{looked, flat}
+use Rattle.store.specs.Tags.{Tag, looked, flat}
 use Rattle.store.specs.Uses.{in_use}
 use Rattle.store.proofs.Cuts.{front, upper, text-parts, at_is, within}
-use Rattle.store.proofs.Holding.{held_lies, held_used}
+use Rattle.store.proofs.Holding.{held_lies, held_count, held_used}
 use Rattle.store.proofs.Laying.{origin_size, ot_size}
 use Rattle.store.proofs.Sizes.{text_size}
 use Rattle.store.proofs.Splices.{part_is}
@@ -19,6 +21,32 @@ use Rattle.store.proofs.Splices.{part_is}
 take_all : (xs : List ℕ) → take (length xs) xs ≡ xs
 take_all [] = refl
 take_all (x ∷ xs) = ap (λ ys. x ∷ ys) (take_all xs)
+
+pub total_append : (ss us : List Span) → total (ss ++ us) ≡ total ss + total us
+total_append [] us = sym (zero-add (total us))
+total_append (s ∷ ss) us = let more : total (ss ++ us) ≡ total ss + total us = total_append ss us in omega arith
+
+pub total-take : (n : ℕ) (ss : List Span) → total (take n ss) ≤ total ss
+total-take n ss = let all : total ss ≡ total (take n ss) + total (drop n ss) = ap total (sym (take-append-drop n ss)) ∙ total_append (take n ss) (drop n ss) in omega arith
+
+-- the record at a place counts among the bytes of all
+pub total_at : (ss : List Span) (i : ℕ) (s : Span) → i < length ss → s ≡ get_or ss i s → total ss ≡ total (take i ss) + ((s.key + s.value) + total (drop (i + 1) ss))
+total_at ss i s h e =
+    let rest : total (drop i ss) ≡ total (s ∷ drop (i + 1) ss) = ap total (drop_more ss i s h ∙ ap (λ r. r ∷ drop (i + 1) ss) (sym e)) in
+    ap total (sym (take-append-drop i ss)) ∙ total_append (take i ss) (drop i ss) ∙ ap (λ n. total (take i ss) + n) rest
+
+-- the tag of these lengths at a place of the text
+abbrev pub tag_at : Span → List ℕ → ℕ → Tag
+tag_at s text at = (take s.key (drop at text), take s.value (drop s.key (drop at text)))
+
+-- the tag at a place of the order lies past those before it
+nth_tag : (ss : List Span) (xs : List ℕ) (i : ℕ) (s : Span) → slice_get ss i ≡ Some s → slice_get (tags_in ss xs) i ≡ Some (tag_at s xs (total (take i ss)))
+nth_tag [] xs i s e = let z : ◌≡◌ {A = ℕ} 0 1 = cc in absurd (omega arith)
+nth_tag (r ∷ ss) xs zero s e = let same : r ≡ s = cc in ap (λ q. Some (tag_at q xs 0)) same
+nth_tag (r ∷ ss) xs (suc i) s e =
+    let before : ℕ = total (take i ss) in
+    let past : drop before (drop r.value (drop r.key xs)) ≡ drop ((r.key + r.value) + before) xs = ap (drop before) (drop-drop r.value r.key xs) ∙ drop-drop before (r.key + r.value) xs in
+    nth_tag ss (drop r.value (drop r.key xs)) i s e ∙ ap (λ ys. Some (take s.key ys, take s.value (drop s.key ys))) past
 
 module _ (s : Store) where
   abbrev text : List ℕ
@@ -47,6 +75,25 @@ module _ (s : Store) where
 
   pub tags_within : (ss : List Span) (xs : List ℕ) (h : ℕ) → ss ≡ in_use s.spans → xs ≡ text → h ≡ head_of s → total ss ≤ length (drop h xs)
   tags_within ss xs h e t a = omega (arith, length-drop h xs, ap total e, ap length t, s.laid)
+
+  -- past the last tag
+  pub tag_none : (i : ℕ) → length (in_use s.spans) ≤ i → None ≡ slice_get (held s).tags i
+  tag_none i h = sym (slice_get_past (held s).tags i (omega (arith, held_count s)))
+
+  -- the tag at a place of the order lies within the text, past those before it
+  module _ (ss : List Span) (e : ss ≡ in_use s.spans) (i : ℕ) (h : i < length ss) (own : Span) (is : own ≡ get_or ss i own) where
+    pub tag-within : (head_of s + total (take i ss)) + (own.key + own.value) ≤ length text
+    tag-within = omega (arith, total_at ss i own h is, ap total e, s.laid)
+
+    pub tag-some : (at : ℕ) (key value : List ℕ) → at ≡ head_of s + total (take i ss) → key ≡ take own.key (drop at text) → value ≡ take own.value (drop (at + own.key) text)
+        → Some (key, value) ≡ slice_get (held s).tags i
+    unfolding held
+    tag-some at key value a k v =
+        let before : ℕ = total (take i ss) in
+        let start : drop before (body text s.origin s.ot) ≡ drop at text = drop-drop before (head_of s) text ∙ ap (λ n. drop n text) (sym a) in
+        let past : drop (at + own.key) text ≡ drop own.key (drop at text) = sym (drop-drop own.key at text) in
+        (λ j. Some (k j, (v ∙ ap (take own.value) past) j)) ∙ ap (λ ys. Some (take own.key ys, take own.value (drop own.key ys))) (sym start)
+        ∙ sym (nth_tag ss (body text s.origin s.ot) i own (slice_get_read ss (length ss) i own refl h is)) ∙ (λ j. slice_get (tags_in (e j) (body text s.origin s.ot)) i)
 
   -- they begin within the text
   pub head_within : head_of s + length (flat (held s).tags) ≤ length text

@@ -13,7 +13,7 @@ number Full = 11
 
 -- what it says
 abbrev pub fault_text : StoreFault → List ℕ
-fault_text Unlawful = codes "unlawful text"
+fault_text Unlawful = codes "unlawful text or number"
 fault_text Full = codes "memory too small"
 
 -- the limits of a store, and what it holds: an origin, an ot value that was given, and tags

@@ -32,7 +32,7 @@ impl fmt::Display for StoreFault {
 
     fn fmt<W: fmt::Write>(&self, f: &mut fmt::Formatter<W>) -> fmt::Result {
         f.write_str(match self {
-            StoreFault::Unlawful => "unlawful text",
+            StoreFault::Unlawful => "unlawful text or number",
             StoreFault::Full => "memory too small",
         })
     }

@@ -1,18 +1,27 @@
 // What a store holds.
-ghost use Rattle.std.specs.Prelude.{◌≡◌, ◌+◌, ◌≤◌, length, take, drop};
+ghost use Rattle.std.specs.Prelude.{◌≡◌, ◌+◌, ◌^◌, ◌<◌, ◌≤◌, length, take, drop};
 ghost use Rattle.std.specs.Option.{option_map};
 ghost use Rattle.std.specs.List.{slice_get};
 ghost use Rattle.text.specs.Takes.{both};
 ghost use Rattle.store.specs.Laws.{Orderly};
+ghost use Rattle.store.specs.Layout.{total};
 ghost use Rattle.store.specs.Spots.{Spot};
 ghost use Rattle.store.specs.Stores.{held, head_of};
 ghost use Rattle.store.specs.Tags.{looked, key_of, value_of};
 ghost use Rattle.store.specs.Uses.{in_use};
 ghost use Rattle.store.specs.Walks.{left};
 
-use crate::memory::Store;
 use crate::memory::seek::{Place, seek};
 use crate::memory::tags::Tags;
+use crate::memory::{Span, Store};
+
+// How many bytes the tags of these lengths have.
+fn total_of(spans: &[Span]) -> usize
+    requires { total spans.now < 2 ^ 64 }
+    ensures { result ≡ total spans.now }
+{
+    spans.iter().map(|span| span.bytes()).sum()
+}
 
 impl Store {
     // Where the tags begin.
@@ -50,11 +59,14 @@ impl Store {
         seek(self.tags(), self.head(), key)
     }
 
-    // The tag at that place of the order.
+    // The tag at that place of the order. The lengths say where it lies, so no tag on the way to it is cut out of the text.
     fn tag_at(&self, i: usize) -> Option<(&[u8], &[u8])>
         ensures { option_map both result ≡ slice_get (held self.now).tags i }
     {
-        self.tags().nth(i)
+        let spans = self.spans.as_slice();
+        let own = spans.get(i)?;
+        let at = self.head() + total_of(&spans[..i]);
+        Some((self.part(at, own.key), self.part(at + own.key, own.value)))
     }
 
     // How many tags there are. They are in order, each key once, and lawful.

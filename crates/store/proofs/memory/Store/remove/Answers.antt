@@ -30,7 +30,7 @@ invariant_of-self c =
     let s = c.args.self.now in
     let b = bounds s in
     kept c.replace-2.new.self c.replace.new.self
-    (removed_lies s c.args.key.now c.find-place.result c.find-place.ensures c.tags.result c.bytes.result c.tags.ensures c.bytes.ensures _ _ _ _ c.replace-2.ensures.room c.replace.ensures.room c.replace-2.ensures.items c.replace.ensures.items)
+    (removed_lies s c.args.key.now c.find-place.result c.find-place.ensures _ _ (omega arith) (omega arith) _ _ _ _ c.replace-2.ensures.room c.replace.ensures.room c.replace-2.ensures.items c.replace.ensures.items)
     (sound-without (held s) (held-sound s) c.args.key.now)
     (omega (arith, c.replace-2.ensures.room), omega (arith, c.replace.ensures.room))
 
@@ -38,4 +38,4 @@ pub returns : goal.returns
 unfolding held
 returns c =
     let s = c.args.self.now in
-    lies_back (removed_lies s c.args.key.now c.find-place.result c.find-place.ensures c.tags.result c.bytes.result c.tags.ensures c.bytes.ensures _ _ _ _ c.replace-2.ensures.room c.replace.ensures.room c.replace-2.ensures.items c.replace.ensures.items)
+    lies_back (removed_lies s c.args.key.now c.find-place.result c.find-place.ensures _ _ (omega arith) (omega arith) _ _ _ _ c.replace-2.ensures.room c.replace.ensures.room c.replace-2.ensures.items c.replace.ensures.items)
