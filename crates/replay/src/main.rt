@@ -9,5 +9,5 @@ fn main(rt: HostRuntime) -> io::Result<()> {
     let mut input = Vec::new(rt.alloc());
     rt.stdin().read_to_end(&mut input)?;
     let shown = script::run::run(rt.alloc(), &input)?;
-    print!(rt; "{shown}")
+    rt.write_all(&shown)
 }

@@ -1,12 +1,11 @@
 // Why a line does nothing.
 use refusal::Refusal;
 use std::alloc::{AllocError, AllocFailed};
-use std::fmt;
 
 // Why a call is refused: any refusal, by its number in docs/REFUSALS.md.
 #[derive(Clone, Copy, Debug)]
 pub(crate) struct Refused {
-    number: u8,
+    pub(crate) number: u8,
 }
 
 impl<R: Refusal> From<R> for Refused {
@@ -14,13 +13,6 @@ impl<R: Refusal> From<R> for Refused {
         Refused {
             number: fault.number(),
         }
-    }
-}
-
-impl fmt::Display for Refused {
-    fn fmt<W: fmt::Write>(&self, f: &mut fmt::Formatter<W>) -> fmt::Result {
-        let number = self.number;
-        write!(f, "refused {number}")
     }
 }
 

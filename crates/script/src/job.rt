@@ -3,7 +3,8 @@ use crate::call::Call;
 use crate::faults::Refused;
 use carrier::traits::{Extractor, Injector};
 use fault::Cause;
-use std::fmt;
+use number::write::hex_text;
+use std::alloc::AllocError;
 use trace::ids::TraceId;
 use trace::priority::{SamplingPriority, is_kept};
 use traceparent::read::read_header;
@@ -63,19 +64,20 @@ impl Job {
         self.priority = Some(told.sampling_priority);
         Ok(())
     }
-}
 
-impl fmt::Display for Job {
-    fn fmt<W: fmt::Write>(&self, f: &mut fmt::Formatter<W>) -> fmt::Result {
-        let TraceId { high, low } = self.trace_id;
-        let span_id = self.span_id;
-        write!(
-            f,
-            "trace {high:016x}{low:016x} span {span_id:016x} priority "
-        )?;
+    // Shows the context. As bytes: show.rt says why.
+    pub(crate) fn show(&self, out: &mut Vec<u8>) -> Result<(), AllocError> {
+        out.extend_from_slice(b"   trace ")?;
+        out.extend_from_slice(&hex_text::<16>(self.trace_id.high))?;
+        out.extend_from_slice(&hex_text::<16>(self.trace_id.low))?;
+        out.extend_from_slice(b" span ")?;
+        out.extend_from_slice(&hex_text::<16>(self.span_id))?;
+        out.extend_from_slice(b" priority ")?;
         match self.priority {
-            Some(priority) => write!(f, "{}", priority.value),
-            None => f.write_str("none"),
+            Some(priority) => out.extend_from_slice(priority.text().text())?,
+            None => out.extend_from_slice(b"none")?,
         }
+        out.push(b'\n')?;
+        Ok(())
     }
 }

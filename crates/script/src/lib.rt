@@ -10,4 +10,5 @@ mod lines;
 mod quote;
 mod replay;
 pub mod run;
+mod show;
 mod words;

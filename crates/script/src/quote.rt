@@ -4,8 +4,10 @@ ghost use Rattle.std.specs.Iterator.{at_most};
 
 use crate::faults::LineFault;
 use number::read::read_hex;
-use std::alloc::Global;
-use std::fmt;
+use number::write::hex_text;
+use std::alloc::{AllocError, Global};
+use std::fmt::Display;
+use std::{fmt, str};
 use text::split::split_once;
 use text::take::take_char;
 
@@ -13,22 +15,19 @@ fn is_plain(b: u8) -> bool {
     matches!(b, b' '..=b'~') && !matches!(b, b'"' | b'\\')
 }
 
-// Shows a text, so that it can be given again.
-#[derive(Clone, Copy)]
-pub(crate) struct Quoted<'a>(pub(crate) &'a [u8]);
-
-impl fmt::Display for Quoted<'_> {
-    fn fmt<W: fmt::Write>(&self, f: &mut fmt::Formatter<W>) -> fmt::Result {
-        f.write_char('"')?;
-        for b in self.0 {
-            if is_plain(*b) {
-                f.write_char(char::from(*b))?;
-            } else {
-                write!(f, "\\x{b:02x}")?;
-            }
+// Shows the text, so that it can be given again. As bytes: show.rt says why.
+pub(crate) fn quote(out: &mut Vec<u8>, text: &[u8]) -> Result<(), AllocError> {
+    out.push(b'"')?;
+    for b in text {
+        if is_plain(*b) {
+            out.push(*b)?;
+        } else {
+            out.extend_from_slice(b"\\x")?;
+            out.extend_from_slice(&hex_text::<2>(u64::from(*b)))?;
         }
-        f.write_char('"')
     }
+    out.push(b'"')?;
+    Ok(())
 }
 
 fn hex_byte(digits: &[u8]) -> Option<u8> {

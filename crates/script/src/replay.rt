@@ -4,8 +4,9 @@ use crate::choice::{Bottom, Choice, read_choice};
 use crate::content::Content;
 use crate::faults::{LineFault, Refused};
 use crate::job::Job;
-use crate::lines::Line;
-use crate::quote::Quoted;
+use crate::lines::{Line, Lines};
+use crate::quote::quote;
+use crate::show::{show_answer, show_line, show_unreadable};
 use block::writer::LineBlock;
 use carrier::traits::{Extractor, Injector};
 use prefix::layer::Prefixed;
@@ -22,7 +23,7 @@ fn read_prefix(text: &[u8]) -> Result<Prefix, LineFault> {
 pub(crate) struct Replay {
     heap: Global,
     job: Job,
-    out: String,
+    out: Vec<u8>,
 }
 
 impl Replay {
@@ -30,11 +31,11 @@ impl Replay {
         Replay {
             heap,
             job: Job::new(),
-            out: String::new(heap),
+            out: Vec::new(heap),
         }
     }
 
-    pub(crate) fn into_shown(self) -> String {
+    pub(crate) fn into_shown(self) -> Vec<u8> {
         let Replay {
             heap: _,
             job: _,
@@ -43,25 +44,35 @@ impl Replay {
         out
     }
 
-    // Runs a section. Where its first line chooses no carrier, its carrier is empty slots.
-    pub(crate) fn run_section(&mut self, section: &[Line<'_>]) -> Result<(), AllocError> {
-        match section {
-            [choice, calls @ ..] if choice.is_choice() => self.run_choice(*choice, calls),
-            calls => self.run_calls(calls, &mut SlotTable::new()),
+    // Runs the lines up to one that chooses a carrier, on empty slots, and answers that line.
+    pub(crate) fn run_slots<'a>(
+        &mut self,
+        lines: &mut Lines<'a>,
+    ) -> Result<Option<Line<'a>>, AllocError> {
+        self.run_calls(lines, &mut SlotTable::new())
+    }
+
+    // The same of lines after one that chooses a carrier, on that one: after a line that is refused or cannot be read, the carrier is empty slots.
+    pub(crate) fn run_choice<'a>(
+        &mut self,
+        choice: Line<'a>,
+        lines: &mut Lines<'a>,
+    ) -> Result<Option<Line<'a>>, AllocError> {
+        show_line(&mut self.out, choice)?;
+        match self.run_chosen(choice, lines) {
+            Ok(next) => Ok(next),
+            Err(fault) => {
+                self.show_fault(choice, fault)?;
+                self.run_slots(lines)
+            }
         }
     }
 
-    // The same where it chooses one: after a line that is refused or cannot be read, the carrier is empty slots.
-    fn run_choice(&mut self, choice: Line<'_>, calls: &[Line<'_>]) -> Result<(), AllocError> {
-        writeln!(self.out, "{choice}")?;
-        let Err(fault) = self.run_chosen(choice, calls) else {
-            return Ok(());
-        };
-        self.show_fault(choice, fault)?;
-        self.run_calls(calls, &mut SlotTable::new())
-    }
-
-    fn run_chosen(&mut self, choice: Line<'_>, calls: &[Line<'_>]) -> Result<(), LineFault> {
+    fn run_chosen<'a>(
+        &mut self,
+        choice: Line<'a>,
+        lines: &mut Lines<'a>,
+    ) -> Result<Option<Line<'a>>, LineFault> {
         let Choice { layers, bottom } = read_choice(self.heap, choice.text)?;
         let prefixes: Vec<Prefix> = layers
             .iter()
@@ -69,54 +80,73 @@ impl Replay {
             .try_collect(self.heap)?;
         // Each bottom is a type of its own.
         match bottom {
-            Bottom::Slots => self.run_pile(SlotTable::new(), &prefixes, calls)?,
+            // Slots alone: a pile of them would make room for its layers at each line.
+            Bottom::Slots if prefixes.is_empty() => {
+                show_answer(&mut self.out, Ok(()))?;
+                Ok(self.run_slots(lines)?)
+            }
+            Bottom::Slots => Ok(self.run_pile(SlotTable::new(), &prefixes, lines)?),
             Bottom::Block(mut memory) => {
                 let block = LineBlock::open(&mut memory.bytes, memory.len).map_err(Refused::from)?;
-                self.run_pile(block, &prefixes, calls)?;
+                Ok(self.run_pile(block, &prefixes, lines)?)
             }
             Bottom::Queue(mut memory) => {
                 let queue = open_queue(&mut memory.bytes, memory.len).map_err(Refused::from)?;
-                self.run_pile(queue, &prefixes, calls)?;
+                Ok(self.run_pile(queue, &prefixes, lines)?)
             }
         }
-        Ok(())
     }
 
-    // Runs the calls on a pile of up to two layers, the upper first, over the bottom. Each number of layers is a type of its own.
-    fn run_pile<C: Extractor + Injector + Content + Drop>(
+    // Runs lines on a pile of up to two layers, the upper first, over the bottom. Each number of layers is a type of its own.
+    fn run_pile<'a, C: Extractor + Injector + Content + Drop>(
         &mut self,
         bottom: C,
         prefixes: &[Prefix],
-        calls: &[Line<'_>],
-    ) -> Result<(), AllocError> {
-        self.show_answer(Ok(()))?;
+        lines: &mut Lines<'a>,
+    ) -> Result<Option<Line<'a>>, AllocError> {
+        show_answer(&mut self.out, Ok(()))?;
         match prefixes {
             [upper, lower, ..] => {
                 let mut pile = Prefixed::new(Prefixed::new(bottom, *lower), *upper);
-                self.run_calls(calls, &mut pile)
+                self.run_calls(lines, &mut pile)
             }
-            [layer] => self.run_calls(calls, &mut Prefixed::new(bottom, *layer)),
+            [layer] => self.run_calls(lines, &mut Prefixed::new(bottom, *layer)),
             [] => {
                 let mut bottom = bottom;
-                self.run_calls(calls, &mut bottom)
+                self.run_calls(lines, &mut bottom)
             }
         }
     }
 
-    fn run_calls<C: Extractor + Injector + Content>(
+    // Runs the lines up to one that chooses a carrier, and answers that line.
+    fn run_calls<'a, C: Extractor + Injector + Content>(
         &mut self,
-        calls: &[Line<'_>],
+        lines: &mut Lines<'a>,
+        carrier: &mut C,
+    ) -> Result<Option<Line<'a>>, AllocError> {
+        for line in lines {
+            if line.is_idle() {
+                continue;
+            }
+            if line.is_choice() {
+                return Ok(Some(line));
+            }
+            self.run_line(line, carrier)?;
+        }
+        Ok(None)
+    }
+
+    fn run_line<C: Extractor + Injector + Content>(
+        &mut self,
+        line: Line<'_>,
         carrier: &mut C,
     ) -> Result<(), AllocError> {
-        for line in calls {
-            writeln!(self.out, "{line}")?;
-            match read_call(self.heap, line.text) {
-                Ok(Call::Leg) => {}
-                Ok(call) => self.run_call(call, carrier)?,
-                Err(fault) => self.show_fault(*line, fault)?,
-            }
+        show_line(&mut self.out, line)?;
+        match read_call(self.heap, line.text) {
+            Ok(Call::Leg) => Ok(()),
+            Ok(call) => self.run_call(call, carrier),
+            Err(fault) => self.show_fault(line, fault),
         }
-        Ok(())
     }
 
     // Makes the call and shows what is there after it.
@@ -126,28 +156,22 @@ impl Replay {
         carrier: &mut C,
     ) -> Result<(), AllocError> {
         let answer = self.job.make(carrier, call);
-        self.show_answer(answer)?;
-        writeln!(self.out, "   {}", self.job)?;
+        show_answer(&mut self.out, answer)?;
+        self.job.show(&mut self.out)?;
         self.show_headers(carrier)?;
         if let Some(block) = carrier.content() {
-            writeln!(self.out, "   block {}", Quoted(block))?;
+            self.out.extend_from_slice(b"   block ")?;
+            quote(&mut self.out, block)?;
+            self.out.push(b'\n')?;
         }
         Ok(())
-    }
-
-    // A method, since an answer is std's `Result` and can have no `Display` of ours.
-    fn show_answer(&mut self, answer: Result<(), Refused>) -> Result<(), AllocError> {
-        match answer {
-            Ok(()) => writeln!(self.out, "   accepted"),
-            Err(fault) => writeln!(self.out, "   {fault}"),
-        }
     }
 
     // Shows why a line was not run. Want of memory ends the replay.
     fn show_fault(&mut self, line: Line<'_>, fault: LineFault) -> Result<(), AllocError> {
         match fault {
-            LineFault::Unreadable => writeln!(self.out, "   line {} cannot be read", line.number),
-            LineFault::Refused(fault) => self.show_answer(Err(fault)),
+            LineFault::Unreadable => show_unreadable(&mut self.out, line),
+            LineFault::Refused(fault) => show_answer(&mut self.out, Err(fault)),
             LineFault::OutOfMemory(fault) => Err(fault),
         }
     }
@@ -155,11 +179,13 @@ impl Replay {
     // Shows the headers of the carrier in its own order.
     fn show_headers<C: Extractor>(&mut self, carrier: &C) -> Result<(), AllocError> {
         for name in (0..carrier.key_count()).filter_map(|at| carrier.key_at(at)) {
-            write!(self.out, "   header {}", Quoted(name))?;
+            self.out.extend_from_slice(b"   header ")?;
+            quote(&mut self.out, name)?;
             if let Some(value) = carrier.get(name) {
-                write!(self.out, " {}", Quoted(value))?;
+                self.out.push(b' ')?;
+                quote(&mut self.out, value)?;
             }
-            writeln!(self.out)?;
+            self.out.push(b'\n')?;
         }
         Ok(())
     }

@@ -1,5 +1,5 @@
 // A whole script.
-use crate::lines::{Sections, read_lines};
+use crate::lines::Lines;
 use crate::replay::Replay;
 use std::alloc::{AllocError, Global};
 use text::trim::trim;
@@ -21,16 +21,21 @@ traceparent read
 
 // Runs the script, or the default job where it is empty, and answers what there is to print. A line that cannot be read is said to be
 // so, and the rest goes on.
-pub fn run(heap: Global, script: &[u8]) -> Result<String, AllocError> {
+pub fn run(heap: Global, script: &[u8]) -> Result<Vec<u8>, AllocError> {
     let text = if trim(script).is_empty() {
         DEFAULT_JOB
     } else {
         script
     };
-    let lines = read_lines(heap, text)?;
+    let mut lines = Lines::new(text);
     let mut replay = Replay::new(heap);
-    for section in Sections::new(&lines) {
-        replay.run_section(section)?;
+    let mut chosen = replay.run_slots(&mut lines)?;
+    // There are fewer sections than bytes.
+    for _ in 0..text.len() {
+        let Some(line) = chosen else {
+            break;
+        };
+        chosen = replay.run_choice(line, &mut lines)?;
     }
     Ok(replay.into_shown())
 }
