@@ -8,7 +8,7 @@ use Rattle.std.proofs.lemmas.List.Folds.{list_all-append, list_all-map}
 use Rattle.std.proofs.lemmas.List.Sums.{AllPass-from_list_all, list_all-from_AllPass}
 use Rattle.std.proofs.lemmas.Simd.{map-map}
 use Rattle.std.proofs.lemmas.Bool.Decides.{nat_tests}
-use Rattle.byte_classes.specs.Sets.{blank, space, hex, tracestate_value, tag_key_replaced, tag_value_replaced, equals, tilde}
+use Rattle.byte_classes.specs.Sets.{blank, space, digit, hex, tracestate_value, tag_key_replaced, tag_value_replaced, equals, tilde}
 use Rattle.text.proofs.Trimming.{back_mirrored, front-passes, back_off}
 use Rattle.text.specs.Laws.{bare}
 use Rattle.text.specs.Splits.{other}
@@ -133,3 +133,7 @@ hex-value b h = grind (arith, nat_tests)
 pub hex_solid : (b : ℕ) → hex b ≡ true → not (space b) ≡ true
 unfolding hex space
 hex_solid b h = grind (arith, nat_tests)
+
+pub digit-hex : (b : ℕ) → digit b ≡ true → hex b ≡ true
+unfolding hex digit
+digit-hex b h = grind (arith, nat_tests)

@@ -10,6 +10,7 @@ use Rattle.number.specs.Numbers.{digit_value, numeral, hex_number, hex_text}
 use Rattle.text.proofs.Trimming.{trim_only}
 use Rattle.text.specs.Laws.{Trims, bare}
 use Rattle.text.specs.Takes.{taken_hex}
+use Rattle.text.specs.Trims.{trimmed}
 use Rattle.trace.specs.Traces.{is_zero, keeps}
 use Rattle.trace.specs.declared.ids.TraceId.{TraceId}
 use Rattle.traceparent.specs.Laws.{HeaderReadsBack, WrittenReadsBack}
@@ -100,7 +101,10 @@ written_bare id span keep = record {
   ends_bare = ap (λ (t : List ℕ). bare blank (reverse t)) (flags_last id span keep) ∙ ends_visible (before_flags id span) keep;
 }
 
+pub written_untrimmed : (id : TraceId) (span : ℕ) (keep : Bool) → trimmed (traceparent_text id span keep) ≡ traceparent_text id span keep
+written_untrimmed id span keep = sym (trim_only (traceparent_text id span keep) (traceparent_text id span keep) (written_bare id span keep))
+
 -- so what a header's value says is what the text says
 pub header_reads_back : HeaderReadsBack
 unfolding header_traceparent
-header_reads_back id span keep = ap read_traceparent (sym (trim_only (traceparent_text id span keep) (traceparent_text id span keep) (written_bare id span keep)))
+header_reads_back id span keep = ap read_traceparent (written_untrimmed id span keep)
