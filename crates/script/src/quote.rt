@@ -6,8 +6,6 @@ use crate::faults::LineFault;
 use number::read::read_hex;
 use number::write::hex_text;
 use std::alloc::{AllocError, Global};
-use std::fmt::Display;
-use std::{fmt, str};
 use text::split::split_once;
 use text::take::take_char;
 
