@@ -45,6 +45,37 @@ fn small_numbers_there_and_back(rt: HostRuntime) {
     }
 }
 
+// An integer of any type is written, also one that no reader takes.
+#[test]
+fn integers_of_any_type(rt: HostRuntime) {
+    assert_eq!(rt; decimal_text(0u64).as_slice(), b"0".as_slice());
+    assert_eq!(rt;
+        decimal_text(18446744073709551615u64).as_slice(),
+        b"18446744073709551615".as_slice()
+    );
+    assert_eq!(rt; decimal_text(-128i8).as_slice(), b"-128".as_slice());
+    assert_eq!(rt; decimal_text(127i8).as_slice(), b"127".as_slice());
+    assert_eq!(rt;
+        decimal_text(18446744073709551616u128).as_slice(),
+        b"18446744073709551616".as_slice()
+    );
+    assert_eq!(rt;
+        decimal_text(u128::MAX).as_slice(),
+        b"340282366920938463463374607431768211455".as_slice()
+    );
+    assert_eq!(rt;
+        decimal_text(i128::MIN).as_slice(),
+        b"-170141183460469231731687303715884105728".as_slice()
+    );
+}
+
+#[test]
+fn integers_of_any_type_there_and_back(rt: HostRuntime) {
+    for n in -128..=127i8 {
+        assert_eq!(rt; read_i8(decimal_text(n).as_slice()), Some(n));
+    }
+}
+
 #[test]
 fn mechanisms(rt: HostRuntime) {
     assert_eq!(rt; read_mechanism(b"-0"), Some(0));

@@ -2,7 +2,7 @@
 mod decimals;
 mod hexes;
 
-pub use self::decimals::{decimal_i8, decimal_u64, mechanism_text};
+pub use self::decimals::{IntegerText, decimal_i8, decimal_text, decimal_u64, mechanism_text};
 pub use self::hexes::{fill_hex, hex_text};
 use text::inline::Inline;
 

@@ -1,10 +1,14 @@
 // Decimal text.
 ghost use Rattle.std.specs.Prelude.{◌≡◌, ◌+◌, ◌≤◌, ◌++◌, length};
 ghost use Rattle.number.specs.Numbers.{decimal_bytes, decimal_text, mechanism_text, small_text};
+ghost use Rattle.text.specs.Inlines.{text_of};
 
 use super::Decimal;
 use itoa::{Buffer, Integer};
 use text::inline::Inline;
+
+// The text of an integer of any type: none is longer.
+pub type IntegerText = Inline<40>;
 
 impl Decimal {
     pub fn text(&self) -> &[u8]
@@ -44,4 +48,13 @@ pub fn mechanism_text(m: u8) -> Decimal
     ensures { decimal_bytes result ≡ mechanism_text m }
 {
     printed::<u8>(b"-", m)
+}
+
+// The digits of an integer of any type, with a minus where it is negative. No reader takes more than 64 bits.
+pub fn decimal_text<I: Integer>(n: I) -> IntegerText
+    ensures { text_of result ≡ I.text n }
+{
+    let mut digits = Inline::new();
+    digits.push(Buffer::new().format(n).as_bytes()).unwrap();
+    digits
 }
